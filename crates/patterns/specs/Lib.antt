@@ -1,0 +1,10 @@
+pub mod Automaton
+pub mod Values
+pub mod Accepted
+pub mod Refusals
+pub mod Questions
+pub mod Formed
+pub mod View
+pub mod Tables
+pub mod Nothing
+pub mod Latch
