@@ -5,17 +5,15 @@ ghost use Rattle.std.specs.Results.{Cases, isOk};
 ghost use Rattle.std.specs.declared.option.Option.the-variants.{Some, None};
 ghost use Rattle.patterns.specs.Automaton.{read};
 ghost use Rattle.patterns.specs.Formed.{Formed};
-ghost use Rattle.patterns.specs.Questions.{judged, sized, ended};
+ghost use Rattle.patterns.specs.Questions.{judged};
 ghost use Rattle.patterns.specs.Tables.{tables};
 use crate::fault::Fault;
-use crate::questions::MAX_ROWS;
-use crate::questions::MAX_SIGNALS;
 use crate::questions::check_roots;
 use crate::questions::check_rows;
+use crate::questions::is_ended;
+use crate::questions::is_sized;
 use crate::row::Row;
-use sets::MAX_STATES;
 use sets::States;
-use sets::is_below;
 
 // The roots' table has a row number for each state, so its length is the number of states.
 #[derive(Clone, Copy)]
@@ -68,18 +66,4 @@ fn ask(parts: Parts) -> Result<(), Fault>
     check_roots(parts.roots, parts.rows.len())?;
     check_rows(parts.rows, parts.roots.len(), parts.signals)?;
     Ok(())
-}
-
-// Whether there are 1 to 64 states, at most 16 signals and 1 to 1,024 rows.
-fn is_sized(states: usize, signals: u8, rows: usize) -> bool
-    ensures { λ r. ⌜ r ≡ sized states signals rows ⌝ }
-{
-    0 < states && states <= MAX_STATES && signals <= MAX_SIGNALS && 0 < rows && rows <= MAX_ROWS
-}
-
-// Whether the start state and each final state is one of the states.
-fn is_ended(states: usize, start: u8, finals: States) -> bool
-    ensures { λ r. ⌜ r ≡ ended states start finals ⌝ }
-{
-    (start as usize) < states && is_below(finals, states)
 }

@@ -1,4 +1,4 @@
-// The questions asked of a pattern's tables, row by row.
+// The questions asked of a pattern's tables, one by one.
 ghost use mathlib.Core.Path.{_≡_};
 ghost use mathlib.Core.Bool.{true};
 ghost use mathlib.Core.List.{[]};
@@ -6,15 +6,32 @@ ghost use Prim.Native.Nat.{ℕ, _≤_};
 ghost use lib.ListN.{length};
 ghost use Rattle.std.specs.Results.{Cases};
 ghost use Rattle.std.specs.declared.option.Option.the-variants.{Some, None};
-ghost use Rattle.patterns.specs.Questions.{rowFault, rowsFault, rootsFault, free, known, ordered, placed};
+ghost use Rattle.patterns.specs.Questions.{sized, ended, rowFault, rowsFault, rootsFault, free, known, ordered, placed};
 use crate::fault::Fault;
 use crate::row;
 use crate::row::Row;
+use sets::MAX_STATES;
+use sets::States;
+use sets::is_below;
 
 // A pattern has at most this many rows.
-pub(crate) const MAX_ROWS: usize = 1024;
+pub const MAX_ROWS: usize = 1024;
 // A pattern has at most this many signals.
-pub(crate) const MAX_SIGNALS: u8 = 16;
+pub const MAX_SIGNALS: u8 = 16;
+
+// Whether there are 1 to 64 states, at most 16 signals and 1 to 1,024 rows.
+pub fn is_sized(states: usize, signals: u8, rows: usize) -> bool
+    ensures { λ r. ⌜ r ≡ sized states signals rows ⌝ }
+{
+    0 < states && states <= MAX_STATES && signals <= MAX_SIGNALS && 0 < rows && rows <= MAX_ROWS
+}
+
+// Whether the start state and each final state is one of the states.
+pub fn is_ended(states: usize, start: u8, finals: States) -> bool
+    ensures { λ r. ⌜ r ≡ ended states start finals ⌝ }
+{
+    (start as usize) < states && is_below(finals, states)
+}
 
 // Whether each root is one of the rows, of which there are `count`.
 pub(crate) fn check_roots(roots: &[u16], count: usize) -> Result<(), Fault>
@@ -45,8 +62,9 @@ pub(crate) fn check_rows(rows: &[Row], states: usize, signals: u8) -> Result<(),
     Ok(())
 }
 
-// Whether the row is free of states, given which rows before it are; or what is wrong with it.
-fn check_row(row: Row, states: usize, signals: u8, before: &[bool]) -> Result<bool, Fault>
+// Whether the row is free of states, given which rows before it are; or what is wrong with it. The row's number is how
+// many come before it.
+pub fn check_row(row: Row, states: usize, signals: u8, before: &[bool]) -> Result<bool, Fault>
     ensures { λ r. ⌜ Cases r
         (λ b. (rowFault states signals (now (before .entry)) row ≡ None) × (b ≡ free (now (before .entry)) row))
         (λ f. rowFault states signals (now (before .entry)) row ≡ Some f) ⌝ }
