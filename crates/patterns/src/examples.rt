@@ -31,6 +31,12 @@ pub fn latch() -> Parts<'static>
     ensures value { λ r. ⌜ read r ≡ latch ⌝ }
     ensures worked { λ _. ⌜ Worked ⌝ }
 {
+    latch_tables()
+}
+
+fn latch_tables() -> Parts<'static>
+    ensures { λ r. ⌜ read r ≡ latch ⌝ }
+{
     Parts {
         signals: 1,
         start: 0,

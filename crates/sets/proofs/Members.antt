@@ -12,7 +12,7 @@ use Rattle.std.proofs.shelf.Tests.{cases-lt, cases-eq, cases-bool, eqb-true, eq
 use Rattle.std.proofs.shelf.Ways.{tells}
 use Rattle.std.proofs.shelf.Bits.{pow-pos, pow-below, shr-split}
 use Rattle.std.specs.Orderings.{Decides}
-use Rattle.sets.specs.Sets.{has, setOf, Within, Below}
+use Rattle.sets.specs.Sets.{has, setOf, union, one, Within, Below}
 
 -- a bit of a number looks only at what lies below it
 bit-low : (c n x q : ℕ) → q < n → (c * 2 ^ n + x) / 2 ^ q % 2 ≡ x / 2 ^ q % 2
@@ -200,21 +200,33 @@ has-low-mod m a q h =
     let s : a / 2 ^ m * 2 ^ m + a % 2 ^ m ≡ a = shr-split a m in
     sym (ap (λ (i : ℕ). has i q) (sym s) ∙ ap (λ (i : ℕ). eqb i 1) (bit-low (a / 2 ^ m) m (a % 2 ^ m) q h))
 
+-- membership in a power of two
+pub has-power : (s q : ℕ) → has (2 ^ s) q ≡ eqb q s
+has-power s q = ⊎-elim
+    (λ (e : q ≡ s). ap (has (2 ^ s)) e ∙ has-one s ∙ sym (eq-eqb q s e))
+    (λ (e : q ≡ s → ⊥). ⊎-elim
+    (λ (t : has (2 ^ s) q ≡ true). absurd (e (in-one s q t)))
+    (λ (t : has (2 ^ s) q ≡ false). t ∙ sym (ne-eqb q s e))
+    (cases-bool (has (2 ^ s) q)))
+    (cases-eq q s)
+
 -- one number more is asked: it joins the set, or the set stays
 module _ (f : ℕ → Bool) (n : ℕ) where
-  pub setOf-more : f n ≡ true → n < 64 → setOf (λ q. has (setOf f n) q || eqb q n) 64 ≡ setOf f (suc n)
+  pub setOf-more : f n ≡ true → n < 64 → union (setOf f n) (one n) ≡ setOf f (suc n)
   setOf-more t l =
-      let joined : ℕ → Bool = λ q. has (setOf f n) q || eqb q n in
+      let either : ℕ → Bool = λ q. has (setOf f n) q || has (one n) q in
       let p = setOf-lt f (suc n) in
       let p′ = pow-mono {i = suc n} {j = 64} (omega arith) in
-      same-set 64 (setOf joined 64) (setOf f (suc n)) (setOf-lt joined 64) (omega arith) (λ q h.
-      has-setOf joined 64 q h ∙ ⊎-elim
+      same-set 64 (union (setOf f n) (one n)) (setOf f (suc n)) (setOf-lt either 64) (omega arith) (λ q h.
+      has-setOf either 64 q h
+      ∙ ap (λ (b : Bool). has (setOf f n) q || b) (has-setOf (λ (j : ℕ). eqb j n) 64 q h)
+      ∙ ⊎-elim
       (λ (s : q < n).
       ap (λ (b : Bool). b || eqb q n) (has-setOf f n q s)
       ∙ ap (λ (b : Bool). f q || b) (ne-eqb q n (λ e. omega arith)) ∙ or-no (f q)
       ∙ sym (has-setOf f (suc n) q (omega arith)))
       (λ (s : n ≤ q). ap (λ (b : Bool). b || eqb q n) (has-above (setOf f n) n q (setOf-lt f n) s) ∙ ⊎-elim
-      (λ (e : q ≡ n). eq-eqb q n e ∙ sym (t) ∙ ap f (sym e) ∙ sym (has-setOf f (suc n) q (omega arith)))
+      (λ (e : q ≡ n). eq-eqb q n e ∙ sym t ∙ ap f (sym e) ∙ sym (has-setOf f (suc n) q (omega arith)))
       (λ (e : q ≡ n → ⊥). ne-eqb q n e ∙ sym (has-above (setOf f (suc n)) (suc n) q p (omega arith)))
       (cases-eq q n))
       (cases-lt q n))

@@ -7,7 +7,7 @@ ghost use Rattle.std.specs.Options.{isSome};
 ghost use Rattle.std.specs.Orderings.{Decides};
 ghost use Rattle.std.specs.Results.{Cases};
 ghost use Rattle.std.specs.declared.option.Option.the-variants.{Some, None};
-ghost use Rattle.sets.specs.Sets.{setOf, Within};
+ghost use Rattle.sets.specs.Sets.{has, setOf, Within};
 ghost use Rattle.patterns.specs.Accepted.{Step, Accepted, lowered};
 ghost use Rattle.patterns.specs.Automaton.{read};
 ghost use Rattle.patterns.specs.Formed.{StateFree};
@@ -86,11 +86,22 @@ impl<'a> Pattern<'a> {
         ensures signals { λ r. ⌜ Decides r (Accepted (automaton (now (self .entry)))
             (lowered (automaton (now (self .entry)) .signals) (now (events .entry)))) ⌝ }
     {
+        holds(self.work_back(events), self.parts.start as usize)
+    }
+
+    // The states that some run under the events leads from to a subset of the final states: the events worked back from
+    // the final set, the last first.
+    fn work_back(&self, events: &[Event]) -> States
+        ensures start { λ r. ⌜ Decides (has r (automaton (now (self .entry)) .start))
+            (Accepted (automaton (now (self .entry))) (now (events .entry))) ⌝ }
+        ensures signals { λ r. ⌜ Decides (has r (automaton (now (self .entry)) .start))
+            (Accepted (automaton (now (self .entry))) (lowered (automaton (now (self .entry)) .signals) (now (events .entry)))) ⌝ }
+    {
         let mut states = self.parts.finals;
         for i in (0..events.len()).rev() {
             states = self.back(events[i], states);
         }
-        holds(states, self.parts.start as usize)
+        states
     }
 }
 

@@ -23,4 +23,4 @@ worked =
     }
 
 pub returns : need.returns
-returns c = record { value = refl; worked = worked }
+returns c = record { value = c .latch-tables .ensures; worked = worked }

@@ -1,11 +1,10 @@
 use mathlib.Core.Path.{_≡_, refl, ap, sym, _∙_}
-use mathlib.Core.Bool.{Bool, false, _||_}
+use mathlib.Core.Bool.{Bool, false}
 use Prim.Native.Nat.{ℕ, suc, _+_, _<_}
-use lib.Dec.{eqb}
 use lib.ListN.{length, getD}
 use native.Mathlib.Omega.{arith}
 use native.Mathlib.Numerals.{add-one}
-use Rattle.sets.specs.Sets.{has, setOf}
+use Rattle.sets.specs.Sets.{setOf, union, one}
 use Rattle.sets.proofs.Members.{setOf-more, setOf-skip}
 use Rattle.patterns.proofs.pattern.matcher.collect.Needs as need
 use Rattle.patterns.proofs.pattern.matcher.collect.Needs.{then-table-roots, else-table-roots}
@@ -23,7 +22,7 @@ loop-q-again c =
     elim (c .if-table-roots .came) [
       | then-table-roots w ↦
           w .found-is ∙ w .add-found .ensures
-          ∙ ap (λ (s : ℕ). setOf (λ p. has s p || eqb p q) 64) (c .loop-q .inv)
+          ∙ ap (λ (s : ℕ). union s (one q)) (c .loop-q .inv)
           ∙ setOf-more f q (w .if-table-roots .taken) (omega (arith, c .pre .few))
       | else-table-roots w ↦ w .found-is ∙ c .loop-q .inv ∙ setOf-skip f q (w .if-table-roots .left)
     ] in

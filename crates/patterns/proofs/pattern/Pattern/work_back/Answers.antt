@@ -11,7 +11,7 @@ use Rattle.patterns.specs.Values.{back}
 use Rattle.patterns.specs.View.{automaton}
 use Rattle.patterns.proofs.Accepting.{backs, decides-accepted, decides-lowered}
 use Rattle.patterns.proofs.Forming.{formed}
-use Rattle.patterns.proofs.pattern.Pattern.matches.Needs as need
+use Rattle.patterns.proofs.pattern.Pattern.work_back.Needs as need
 
 -- the events worked back from the final set
 from-finals : Automaton → List ℕ → ℕ
@@ -41,10 +41,9 @@ returns c =
     let es = c .args .events .now in
     let F = formed A (c .args .self .now .formed) in
     let z : c .loop-i .i ≡ 0 = omega arith in
-    let e : c .holds .result ≡ has (from-finals A es) (A .start) =
-    c .holds .ensures
-    ∙ ap (λ (n : ℕ). has n (A .start)) (c .loop-i .inv ∙ ap (λ (n : ℕ). from-finals A (drop n es)) z) in
+    let e : has (c .loop-i .states) (A .start) ≡ has (from-finals A es) (A .start) =
+    ap (λ (n : ℕ). has n (A .start)) (c .loop-i .inv ∙ ap (λ (n : ℕ). from-finals A (drop n es)) z) in
     record {
-      accepted = decides-at _ _ e (decides-accepted A F es);
+      start = decides-at _ _ e (decides-accepted A F es);
       signals = decides-at _ _ e (decides-lowered A F es);
     }
