@@ -14,7 +14,8 @@ use Rattle.sets.proofs.Members.{has-setOf, in-setOf, has-one, in-one, setOf-lt,
 use Rattle.patterns.specs.Automaton.{Automaton, states, root}
 use Rattle.patterns.specs.Values.{value, back}
 use Rattle.patterns.specs.Formed.{Formed}
-use Rattle.patterns.specs.Accepted.{Step, Leads, done, step, Accepted, lowered}
+use Rattle.sets.specs.Events.{lowered}
+use Rattle.patterns.specs.Accepted.{Step, Leads, done, step, Accepted}
 use Rattle.patterns.proofs.Depending.{value-grows, value-same}
 
 -- the events worked back from a set, the last first

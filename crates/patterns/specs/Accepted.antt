@@ -3,10 +3,9 @@
 -- Step A a c d     under event a every state of c has its condition met by d
 -- Leads A es c d   steps under the events es lead from c to d
 -- Accepted A es    they lead from the start state alone to a subset of the final states
--- lowered m es     the events with their bits from m up cleared
-use Prim.Native.Nat.{ℕ, _^_, _%_, _<_}
+use Prim.Native.Nat.{ℕ, _^_, _<_}
 use mathlib.Core.Bool.{true}
-use mathlib.Core.List.{List, [], _∷_, map}
+use mathlib.Core.List.{List, [], _∷_}
 use mathlib.Core.Path.{_≡_}
 use Rattle.sets.specs.Sets.{has, Within}
 use Rattle.patterns.specs.Automaton.{Automaton, states, root}
@@ -21,6 +20,3 @@ pub data Leads (A : Automaton) : List ℕ → ℕ → ℕ → Type 0 where
 
 abbrev pub Accepted : Automaton → List ℕ → Type 0
 Accepted A es = (d : ℕ) × Leads A es (2 ^ A .start) d × Within d (A .finals)
-
-abbrev pub lowered : ℕ → List ℕ → List ℕ
-lowered m es = map (λ a. a % 2 ^ m) es

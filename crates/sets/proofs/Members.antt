@@ -210,6 +210,11 @@ has-power s q = ⊎-elim
     (cases-bool (has (2 ^ s) q)))
     (cases-eq q s)
 
+-- the union with the set of one member
+pub union-one : (c m : ℕ) → union c (one m) ≡ setOf (λ q. has c q || eqb q m) 64
+union-one c m = setOf-same (λ (q : ℕ). has c q || has (one m) q) (λ (q : ℕ). has c q || eqb q m) 64
+    (λ q h. ap (λ (b : Bool). has c q || b) (has-setOf (λ (j : ℕ). eqb j m) 64 q h))
+
 -- one number more is asked: it joins the set, or the set stays
 module _ (f : ℕ → Bool) (n : ℕ) where
   pub setOf-more : f n ≡ true → n < 64 → union (setOf f n) (one n) ≡ setOf f (suc n)
