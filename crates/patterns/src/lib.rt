@@ -3,6 +3,6 @@ pub mod examples;
 pub mod fault;
 pub mod parts;
 pub mod pattern;
-mod questions;
+pub mod questions;
 pub mod row;
 mod values;

@@ -1,0 +1,4 @@
+pub mod Leasts
+pub mod Finds
+pub mod Places
+pub mod Account

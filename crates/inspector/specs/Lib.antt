@@ -1,0 +1,4 @@
+pub mod Refusals
+pub mod Inspected
+pub mod Searches
+pub mod Meaning

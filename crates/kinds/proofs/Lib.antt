@@ -1,0 +1,4 @@
+pub mod Values
+pub mod Searches
+pub mod Covering
+pub mod Certificates

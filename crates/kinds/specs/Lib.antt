@@ -1,0 +1,5 @@
+pub mod Shape
+pub mod Laws
+pub mod Accepted
+pub mod Certificate
+pub mod Earliest

@@ -1,0 +1,5 @@
+pub mod Asking
+pub mod Forming
+pub mod Admitting
+pub mod Stepping
+pub mod Sending
