@@ -4,8 +4,11 @@ use mathlib.Core.List.{List, [], _∷_, _++_}
 use Prim.Native.Nat.{ℕ, suc, _+_, _-_, _/_, _≤_, _<_, min}
 use native.Mathlib.Omega.{arith}
 use lib.ListN.{length, getD, take, drop, length-take, length-drop}
-use Rattle.std.proofs.shelf.Lists.{drop-drop, drop-take, drop-more, drop-all, take-take, getD-take}
-use Rattle.blocks.specs.Bytes.{number}
+use Rattle.std.proofs.shelf.Lists.{length-append, take-append-le, drop-append-le, drop-drop, drop-take, drop-more, drop-all, take-take, getD-take}
+use lib.Dec.{leb}
+use Rattle.std.proofs.shelf.Tests.{le-leb, cond-true}
+use Rattle.std.specs.declared.option.Option.the-variants.{Some, None}
+use Rattle.blocks.specs.Bytes.{number, nextNumber}
 use Rattle.blocks.specs.Layout.{usedIn, roomIn, frontOf, fronts, payload}
 use Rattle.blocks.specs.declared.reader.Reader.{Reader}
 use Rattle.blocks.specs.Reading.{rest}
@@ -76,3 +79,57 @@ pub rest-none : (r : Reader) → length (r .file .now) - r .block < 512 → drop
 rest-none r h none =
     let l = length-drop (r .block) (r .file .now) in
     ap (λ (xs : List ℕ). xs ++ payload (drop (r .block) (r .file .now))) none ∙ payload-short (drop (r .block) (r .file .now)) (omega arith)
+
+-- n bytes in the block that was entered
+module _ (r : Reader) (n : ℕ) (h : r .place + n ≤ r .end) (k : r .place + n ≤ length (r .file .now)) where
+  here : List ℕ
+  here = drop (r .place) (take (r .end) (r .file .now))
+
+  enough : n ≤ length here
+  unfolding here
+  enough =
+      let a = length-take (r .end) (r .file .now) in
+      let b = length-drop (r .place) (take (r .end) (r .file .now)) in
+      omega arith
+
+  pub long-rest : n ≤ length (rest r)
+  unfolding here
+  long-rest =
+      let a = length-append here (payload (drop (r .block) (r .file .now))) in
+      let b = enough in
+      omega arith
+
+  pub passed-over : rest (record { file = r .file; block = r .block; place = r .place + n; end = r .end }) ≡ drop n (rest r)
+  unfolding here
+  passed-over =
+      let behind = payload (drop (r .block) (r .file .now)) in
+      sym (drop-append-le n here behind enough ∙ ap (λ (xs : List ℕ). xs ++ behind) (drop-drop n (r .place) (take (r .end) (r .file .now))))
+
+  -- what stands in the file there comes next
+  pub comes-next : take n (rest r) ≡ take n (drop (r .place) (r .file .now))
+  unfolding here
+  comes-next =
+      let file = r .file .now in
+      let z : r .end ≡ r .place + (r .end - r .place) = omega arith in
+      take-append-le n here (payload (drop (r .block) file)) enough
+      ∙ ap (λ (j : ℕ). take n (drop (r .place) (take j file))) z
+      ∙ ap (take n) (drop-take (r .place) (r .end - r .place) file)
+      ∙ take-take n (r .end - r .place) (drop (r .place) file) (omega arith)
+
+  -- a part of it too
+  pub part-next : (i m : ℕ) → i + m ≤ n → take m (drop i (rest r)) ≡ take m (drop (r .place + i) (r .file .now))
+  part-next i m l =
+      let file = r .file .now in
+      let z : i + (n - i) ≡ n = omega arith in
+      sym (take-take m (n - i) (drop i (rest r)) (omega arith))
+      ∙ ap (take m)
+      (sym (drop-take i (n - i) (rest r))
+      ∙ ap (drop i) (ap (λ (j : ℕ). take j (rest r)) z ∙ comes-next ∙ ap (λ (j : ℕ). take j (drop (r .place) file)) (sym z))
+      ∙ drop-take i (n - i) (drop (r .place) file))
+      ∙ take-take m (n - i) (drop i (drop (r .place) file)) (omega arith)
+      ∙ ap (take m) (drop-drop i (r .place) file)
+
+  pub next-number : Some (number (take n (drop (r .place) (r .file .now)))) ≡ nextNumber n (rest r)
+  next-number =
+      sym (cond-true (leb n (length (rest r))) (Some (number (take n (rest r)))) None (le-leb n (length (rest r)) long-rest)
+      ∙ ap (λ (xs : List ℕ). Some (number xs)) comes-next)

@@ -5,7 +5,7 @@ ghost use mathlib.Core.List.{[]};
 ghost use Prim.Native.Nat.{_+_, _-_, _*_, _<_, _≤_};
 ghost use lib.ListN.{length, take, drop};
 ghost use Rattle.std.specs.Options.{isSome};
-ghost use Rattle.blocks.specs.Bytes.{number, nextNumber, head};
+ghost use Rattle.blocks.specs.Bytes.{number, nextNumber, nextThree, head};
 ghost use Rattle.blocks.specs.Layout.{payload};
 ghost use Rattle.blocks.specs.Laws.{Counted};
 ghost use Rattle.blocks.specs.Reading.{rest, Stands, payloadLen};
@@ -83,9 +83,53 @@ impl<'a> Reader<'a> {
         ensures after { λ _. ⌜ rest (now (self .exit)) ≡ drop 2 (rest (now (self .entry))) ⌝ }
         ensures same { λ _. ⌜ now (now (self .exit) .file) ≡ now (now (self .entry) .file) ⌝ }
     {
+        let end = self.end.min(self.file.len());
+        if end.saturating_sub(self.place) < 2 {
+            return self.next_two();
+        }
+        let number = read_u16(self.file, self.place);
+        self.place += 2;
+        Some(number)
+    }
+
+    // The same byte by byte, for two bytes that may stand in two blocks.
+    fn next_two(&mut self) -> Option<u16>
+        ensures value { λ r. ⌜ r ≡ nextNumber 2 (rest (now (self .entry))) ⌝ }
+        ensures after { λ _. ⌜ rest (now (self .exit)) ≡ drop 2 (rest (now (self .entry))) ⌝ }
+        ensures same { λ _. ⌜ now (now (self .exit) .file) ≡ now (now (self .entry) .file) ⌝ }
+    {
         let low = self.next()?;
         let high = self.next()?;
         Some(low as u16 + 256 * high as u16)
+    }
+
+    // The three numbers in the next six bytes, or none if there are fewer; these are then passed over.
+    pub fn next_three_u16(&mut self) -> Option<(u16, u16, u16)>
+        ensures value { λ r. ⌜ r ≡ nextThree (rest (now (self .entry))) ⌝ }
+        ensures after { λ _. ⌜ rest (now (self .exit)) ≡ drop 6 (rest (now (self .entry))) ⌝ }
+        ensures same { λ _. ⌜ now (now (self .exit) .file) ≡ now (now (self .entry) .file) ⌝ }
+    {
+        let end = self.end.min(self.file.len());
+        if end.saturating_sub(self.place) < 6 {
+            return self.next_three();
+        }
+        let first = read_u16(self.file, self.place);
+        let second = read_u16(self.file, self.place + 2);
+        let third = read_u16(self.file, self.place + 4);
+        self.place += 6;
+        Some((first, second, third))
+    }
+
+    // The same number by number, for six bytes that may stand in two blocks.
+    fn next_three(&mut self) -> Option<(u16, u16, u16)>
+        ensures value { λ r. ⌜ r ≡ nextThree (rest (now (self .entry))) ⌝ }
+        ensures after { λ _. ⌜ rest (now (self .exit)) ≡ drop 6 (rest (now (self .entry))) ⌝ }
+        ensures same { λ _. ⌜ now (now (self .exit) .file) ≡ now (now (self .entry) .file) ⌝ }
+    {
+        let first = self.next_u16()?;
+        let second = self.next_u16()?;
+        let third = self.next_u16()?;
+        Some((first, second, third))
     }
 
     // The number in the next eight bytes, or none if there are fewer; these are then passed over.

@@ -1,0 +1,9 @@
+pub mod Portions
+pub mod Asking
+pub mod Ordering
+pub mod Fields
+pub mod RoundTrip
+pub mod Rereading
+pub mod Laying
+pub mod Fitting
+pub mod Rewriting
