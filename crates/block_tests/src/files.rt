@@ -3,10 +3,10 @@ use blocks::BLOCK_LEN;
 use blocks::check::check_file;
 
 // The longest file of the tests: 13 blocks.
-pub const LIMIT: usize = 6_656;
+pub(crate) const LIMIT: usize = 6_656;
 
 // A payload of 38 bytes.
-pub const EXAMPLE: [u8; 38] = [
+pub(crate) const EXAMPLE: [u8; 38] = [
     1,
     2,
     1,
@@ -48,7 +48,7 @@ pub const EXAMPLE: [u8; 38] = [
 ];
 
 // Number and place of the refusal, or twice 0 for a file with no fault.
-pub fn answer(file: &[u8], limit: usize) -> (u8, usize) {
+pub(crate) fn answer(file: &[u8], limit: usize) -> (u8, usize) {
     match check_file(file, limit) {
         Ok(()) => (0, 0),
         Err(fault) => (fault.number(), fault.place()),
@@ -56,7 +56,7 @@ pub fn answer(file: &[u8], limit: usize) -> (u8, usize) {
 }
 
 // Bytes that differ from their neighbours, none of them 0.
-pub fn fill(bytes: &mut [u8]) {
+pub(crate) fn fill(bytes: &mut [u8]) {
     let mut next = 1;
     for byte in bytes.iter_mut() {
         *byte = next;
@@ -65,7 +65,7 @@ pub fn fill(bytes: &mut [u8]) {
 }
 
 // The bytes from place `from` up to `to`, or all of them if there are no such places.
-pub fn part(bytes: &[u8], from: usize, to: usize) -> &[u8] {
+pub(crate) fn part(bytes: &[u8], from: usize, to: usize) -> &[u8] {
     if from <= to && to <= bytes.len() {
         &bytes[from..to]
     } else {
@@ -74,7 +74,7 @@ pub fn part(bytes: &[u8], from: usize, to: usize) -> &[u8] {
 }
 
 // Puts a byte into a block, unless there is no such place.
-pub fn put(file: &mut [u8], block: usize, at: usize, byte: u8) {
+pub(crate) fn put(file: &mut [u8], block: usize, at: usize, byte: u8) {
     let whole = file.len() / BLOCK_LEN;
     if block < whole && at < BLOCK_LEN {
         file[BLOCK_LEN * block + at] = byte;
@@ -82,7 +82,7 @@ pub fn put(file: &mut [u8], block: usize, at: usize, byte: u8) {
 }
 
 // Makes a block's check right again, by a sum of its own.
-pub fn seal(file: &mut [u8], block: usize) {
+pub(crate) fn seal(file: &mut [u8], block: usize) {
     let whole = file.len() / BLOCK_LEN;
     if block >= whole {
         return;

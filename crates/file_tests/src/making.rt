@@ -5,14 +5,14 @@ use patterns::row;
 use patterns::row::Row;
 use std::test::*;
 
-pub const ZERO: Row = Row {
+pub(crate) const ZERO: Row = Row {
     operation: row::FALSE,
     left: 0,
     right: 0,
 };
 
 // LATCH's payload.
-pub const LATCH: [u8; 38] = [
+pub(crate) const LATCH: [u8; 38] = [
     1,
     2,
     1,
@@ -54,7 +54,7 @@ pub const LATCH: [u8; 38] = [
 ];
 
 // Puts the check of a block's first 508 bytes behind them.
-pub fn seal(block: &mut [u8; 512]) {
+pub(crate) fn seal(block: &mut [u8; 512]) {
     let mut sum: u32 = 0;
     for i in 0..508usize {
         sum = sum.wrapping_add((i as u32 + 1) * block[i] as u32);
@@ -67,7 +67,7 @@ pub fn seal(block: &mut [u8; 512]) {
 }
 
 // The one block of a payload of at most 504 bytes.
-pub fn one_block(payload: &[u8]) -> [u8; 512] {
+pub(crate) fn one_block(payload: &[u8]) -> [u8; 512] {
     let mut block = [0; 512];
     let used = payload.len().min(504);
     for i in 0..used {
@@ -80,7 +80,7 @@ pub fn one_block(payload: &[u8]) -> [u8; 512] {
 }
 
 // LATCH's file with another byte at a place of the payload, the check put right.
-pub fn latch_with(place: usize, byte: u8) -> [u8; 512] {
+pub(crate) fn latch_with(place: usize, byte: u8) -> [u8; 512] {
     let mut payload = LATCH;
     if place < payload.len() {
         payload[place] = byte;
@@ -88,13 +88,13 @@ pub fn latch_with(place: usize, byte: u8) -> [u8; 512] {
     one_block(&payload)
 }
 
-pub fn is(fault: TableFault, number: u8, place: usize) -> Result<(), Fail> {
+pub(crate) fn is(fault: TableFault, number: u8, place: usize) -> Result<(), Fail> {
     check_eq(fault.number(), number)?;
     check_eq(fault.place(), place)
 }
 
 // Reading into tables of 64 roots and 1,024 rows is refused so.
-pub fn refused(file: &[u8], number: u8, place: usize) -> Result<(), Fail> {
+pub(crate) fn refused(file: &[u8], number: u8, place: usize) -> Result<(), Fail> {
     let mut roots = [7; 64];
     let mut rows = [ZERO; 1024];
     match read_pattern(file, &mut roots, &mut rows) {

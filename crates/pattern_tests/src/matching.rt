@@ -36,51 +36,53 @@ fn latch_cases() -> Result<(), Fail> {
     check_eq(accepts(latch, &[65535, 3])?, true)
 }
 
-// Every operation over every value of its operands.
+// Every operation, over a signal and a state.
+const OPERATIONS: [Row; 8] = [
+    Row {
+        operation: row::SIGNAL,
+        left: 0,
+        right: 0,
+    },
+    Row {
+        operation: row::STATE,
+        left: 63,
+        right: 0,
+    },
+    Row {
+        operation: row::AND,
+        left: 0,
+        right: 1,
+    },
+    Row {
+        operation: row::OR,
+        left: 0,
+        right: 1,
+    },
+    Row {
+        operation: row::NOT,
+        left: 0,
+        right: 0,
+    },
+    Row {
+        operation: row::FALSE,
+        left: 0,
+        right: 0,
+    },
+    Row {
+        operation: row::TRUE,
+        left: 0,
+        right: 0,
+    },
+    Row {
+        operation: row::SIGNAL,
+        left: 15,
+        right: 0,
+    },
+];
+
 #[test]
 fn operations() -> Result<(), Fail> {
-    let rows = [
-        Row {
-            operation: row::SIGNAL,
-            left: 0,
-            right: 0,
-        },
-        Row {
-            operation: row::STATE,
-            left: 63,
-            right: 0,
-        },
-        Row {
-            operation: row::AND,
-            left: 0,
-            right: 1,
-        },
-        Row {
-            operation: row::OR,
-            left: 0,
-            right: 1,
-        },
-        Row {
-            operation: row::NOT,
-            left: 0,
-            right: 0,
-        },
-        Row {
-            operation: row::FALSE,
-            left: 0,
-            right: 0,
-        },
-        Row {
-            operation: row::TRUE,
-            left: 0,
-            right: 0,
-        },
-        Row {
-            operation: row::SIGNAL,
-            left: 15,
-            right: 0,
-        },
-    ];
+    let rows = OPERATIONS;
     let mut roots = [5; 64];
     roots[0] = 0;
     roots[1] = 1;

@@ -32,78 +32,37 @@ fn refused(parts: Parts, number: u8, place: usize) -> Result<(), Fail> {
     }
 }
 
-#[test]
-fn sizes() -> Result<(), Fail> {
+// So many states, signals and rows pass, or are refused under 1.
+fn sized(states: usize, signals: u8, count: usize, pass: bool) -> Result<(), Fail> {
     let roots = [0; 65];
     let rows = [ZERO; 1025];
+    if states > 65 || count > 1025 {
+        return Err(Fail::new("at most 65 states and 1,025 rows"));
+    }
     let parts = Parts {
-        signals: 0,
+        signals,
         start: 0,
         finals: 0,
-        roots: &roots[0..1],
-        rows: &rows[0..1],
+        roots: &roots[0..states],
+        rows: &rows[0..count],
     };
-    passes(parts)?;
-    passes(Parts {
-        roots: &roots[0..64],
-        ..parts
-    })?;
-    refused(
-        Parts {
-            roots: &roots,
-            ..parts
-        },
-        1,
-        0,
-    )?;
-    refused(
-        Parts {
-            roots: &roots[0..0],
-            ..parts
-        },
-        1,
-        0,
-    )?;
-    passes(Parts {
-        signals: 16,
-        ..parts
-    })?;
-    refused(
-        Parts {
-            signals: 17,
-            ..parts
-        },
-        1,
-        0,
-    )?;
-    refused(
-        Parts {
-            signals: 255,
-            ..parts
-        },
-        1,
-        0,
-    )?;
-    passes(Parts {
-        rows: &rows[0..1024],
-        ..parts
-    })?;
-    refused(
-        Parts {
-            rows: &rows,
-            ..parts
-        },
-        1,
-        0,
-    )?;
-    refused(
-        Parts {
-            rows: &rows[0..0],
-            ..parts
-        },
-        1,
-        0,
-    )
+    if pass {
+        passes(parts)
+    } else {
+        refused(parts, 1, 0)
+    }
+}
+
+#[test]
+fn sizes() -> Result<(), Fail> {
+    sized(1, 0, 1, true)?;
+    sized(64, 16, 1024, true)?;
+    sized(0, 0, 1, false)?;
+    sized(65, 0, 1, false)?;
+    sized(1, 17, 1, false)?;
+    sized(1, 255, 1, false)?;
+    sized(1, 0, 0, false)?;
+    sized(1, 0, 1025, false)
 }
 
 #[test]
