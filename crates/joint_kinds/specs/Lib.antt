@@ -1,0 +1,5 @@
+pub mod Refusals
+pub mod Questions
+pub mod Tables
+pub mod Sound
+pub mod JointKind

@@ -1,0 +1,13 @@
+pub mod Entries
+pub mod Moves
+pub mod Steps
+pub mod Invariant
+pub mod Growing
+pub mod Reaching
+pub mod Opening
+pub mod Querying
+pub mod Counting
+pub mod Sequences
+pub mod Certifying
+pub mod Promises
+pub mod Orders

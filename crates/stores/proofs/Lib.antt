@@ -1,0 +1,5 @@
+pub mod Reorderings
+pub mod Equivalents
+pub mod Insertions
+pub mod Growth
+pub mod Rows
