@@ -24,7 +24,7 @@ static STUCK_ROWS: [Row; 3] = [
 ];
 
 // STUCK: one state that asks for the signal and for itself again, and none final, so no sequence is long enough.
-pub fn stuck() -> Parts<'static> {
+pub(crate) fn stuck() -> Parts<'static> {
     Parts {
         signals: 1,
         start: 0,
@@ -91,7 +91,7 @@ static DIFFERENCE_ROWS: [Row; 10] = [
 
 // LATCH without LATCH: what LATCH accepts and LATCH does not. States 0 and 1 are LATCH's, 2 and 3 its states with dual
 // conditions, of which all are final, and the start 4 asks for both.
-pub fn difference() -> Parts<'static> {
+pub(crate) fn difference() -> Parts<'static> {
     Parts {
         signals: 1,
         start: 4,
@@ -110,7 +110,7 @@ static WIDE_ROWS: [Row; 1] = [Row {
 }];
 
 // One state over 16 signals, final, that asks for the last signal.
-pub fn wide() -> Parts<'static> {
+pub(crate) fn wide() -> Parts<'static> {
     Parts {
         signals: 16,
         start: 0,
