@@ -1,7 +1,7 @@
 // Reading a pattern file: every question is asked on the lent bytes, before a table is written.
 ghost use mathlib.Core.Path.{_≡_};
 ghost use mathlib.Core.Bool.{true, false, cond, _&&_};
-ghost use lib.Dec.{leb};
+ghost use lib.Dec.{leb, ltb};
 ghost use mathlib.Core.List.{[], _++_};
 ghost use Prim.Native.Nat.{ℕ, _+_, _*_, _<_, _≤_};
 ghost use lib.ListN.{length, take, drop};
@@ -238,6 +238,7 @@ fn fill_rows(reader: &mut Reader, count: usize, rows: &mut [Row])
 fn next_row(reader: &mut Reader) -> Option<Row>
     requires { ⌜ 6 ≤ length (rest (now reader)) ⌝ }
     ensures cases { λ r. ⌜ BySome r (known (rowOf (rest (now (reader .entry)))) ≡ false) (λ row. row ≡ rowOf (rest (now (reader .entry)))) ⌝ }
+    ensures test { λ r. ⌜ isSome r ≡ ltb (rowOf (rest (now (reader .entry))) .operation) 256 ⌝ }
     ensures after { λ _. ⌜ rest (now (reader .exit)) ≡ drop 6 (rest (now (reader .entry))) ⌝ }
 {
     let (operation, left, right) = reader.next_three_u16().unwrap();
