@@ -1,4 +1,6 @@
 // Sets of small numbers, each set one number: bit q is 1 where q is a member.
+#![tactic(auto)]
+
 ghost use Rattle.std.specs.Prelude.{◌≡◌, ◌/◌, ◌^◌, Decides, ◌==◌, bit_and, nat_lt};
 ghost use Rattle.sets.specs.Sets.{has, union, one, Within, Below};
 

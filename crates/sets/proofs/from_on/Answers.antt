@@ -1,4 +1,4 @@
-use Rattle.std.proofs.Common.{◌≡◌, ℕ, ◌*◌, ◌/◌, ◌^◌, ◌<◌, ◌≤◌, Bool, eqb, ltb, Decides, sym, refl, ◌∙◌, ⊎_elim, arith, pow_mono}
+use Rattle.std.proofs.Common.{◌≡◌, ℕ, ◌*◌, ◌/◌, ◌^◌, ◌<◌, ◌≤◌, eqb, ltb, Decides, sym, refl, ◌∙◌, ⊎_elim, arith, pow_mono}
 use native.Mathlib.Nat.{div-eq_of_lt}
 use Rattle.std.proofs.lemmas.Bool.{cases_lt, lt-ltb, le-ltb, eq-eqb, ne_eqb}
 use Rattle.std.proofs.lemmas.Bool.Decides.{Decides-at}
@@ -35,13 +35,13 @@ none_left set place l h =
     let p = pow_mono {i = 64} {j = place} h in
     sym (div-eq_of_lt (omega arith))
 
-pub returns-then-place-lt-MAX-STATES : goal.returns-then-place-lt-MAX-STATES
-returns-then-place-lt-MAX-STATES c =
+pub returns-then-place-lt-MAX_STATES : goal.returns-then-place-lt-MAX_STATES
+returns-then-place-lt-MAX_STATES c =
     let s = shifted c.args.set c.args.place _ c.ranges.set.fits refl in
     record { value = s.value; test = s.test; members = s.members }
 
-pub returns-else-place-lt-MAX-STATES : goal.returns-else-place-lt-MAX-STATES
-returns-else-place-lt-MAX-STATES c =
+pub returns-else-place-lt-MAX_STATES : goal.returns-else-place-lt-MAX_STATES
+returns-else-place-lt-MAX_STATES c =
     let s = shifted c.args.set c.args.place 0 c.ranges.set.fits
     (none_left c.args.set c.args.place c.ranges.set.fits (omega arith)) in
     record { value = s.value; test = s.test; members = s.members }

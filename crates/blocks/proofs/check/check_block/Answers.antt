@@ -22,7 +22,7 @@ returns-then-not-all-zero c =
 
 pub returns : goal.returns
 returns c =
-    let used = c.read-u16-used.result in
-    let r = fills_range used c.args.last (sym c.if-not-may-use.ensures) in
-    let z = c.all-zero.ensures ∙ ap zeros (unused_part c.args.block.now used r.1) in
+    let used = c.read_u16-used.result in
+    let r = fills_range used c.args.last (sym c.if-not-may_use.ensures) in
+    let z = c.all_zero.ensures ∙ ap zeros (unused_part c.args.block.now used r.1) in
     grind (arith, nat_tests)

@@ -21,7 +21,7 @@ returns-in-err-check-block c =
 pub loop-b-preserved : goal.loop-b-preserved
 loop-b-preserved c =
     let file = c.args.file.now in
-    blocks_pass file c.loop-b.b (length file / 512) c.loop-b-test.true c.in-ok-check-block.ensures
+    blocks_pass file c.loop-b.b (length file / 512) c.loop-b-test.true c.in_ok-check_block.ensures
     ∙ c.loop-b.invariant
 
 pub returns : goal.returns
@@ -31,4 +31,4 @@ returns c =
     let e : length file / 512 - c.loop-b.b ≡ 0 = omega arith in
     let s = sym c.loop-b.invariant ∙ ap (λ (n : ℕ). blocks_fault n c.loop-b.b (drop (512 * c.loop-b.b) file)) e in
     let none : is_some (file_fault file c.args.limit) ≡ false = grind (arith, nat_tests) in
-    record { cases = none; items = rewritten file c.args.limit (bytes_from_typed file c.type-inv.file) none }
+    record { cases = none; items = rewritten file c.args.limit (bytes_from_typed file c.ok.file) none }

@@ -11,6 +11,6 @@ returns c =
     let l = length-drop at bs in
     let j = number_join 2 2 (drop at bs) (omega arith) in
     let d = ap (λ (xs : List ℕ). number (take 2 xs)) (drop-drop 2 at bs) in
-    let p = c.read-u16.ensures in
-    let q = c.read-u16-2.ensures in
+    let p = c.read_u16.ensures in
+    let q = c.read_u16-2.ensures in
     omega arith

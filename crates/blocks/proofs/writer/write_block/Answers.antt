@@ -21,8 +21,8 @@ returns c =
     let e : length (take (508 - behind) (drop behind three)) ≡ 504 - length part = omega arith in
     block_written c.args.number c.weigh-sum.result part c.args.block.now c.put.new.target c.put-2.new.target three
     (put_mid behind (508 - behind) three c.clear.new.bytes) c.put-4.new.target
-    c.to-le-bytes.result c.to-le-bytes-2.result c.clear.new.bytes c.to-le-bytes-3.result
-    c.to-le-bytes.ensures c.to-le-bytes-2.ensures (c.to-le-bytes-3.ensures ∙ four_bytes c.weigh-sum.result)
+    c.to_le_bytes.result c.to_le_bytes-2.result c.clear.new.bytes c.to_le_bytes-3.result
+    c.to_le_bytes.ensures c.to_le_bytes-2.ensures (c.to_le_bytes-3.ensures ∙ four_bytes c.weigh-sum.result)
     (c.clear.ensures ∙ ap (λ (n : ℕ). replicate n 0) e)
     c.put.ensures c.put-2.ensures c.put-3.ensures refl c.weigh-sum.ensures c.put-4.ensures
     c.requires.short (omega arith) (omega arith) (omega arith) (omega arith) (omega arith)

@@ -9,10 +9,10 @@ pub loop-b-preserved : goal.loop-b-preserved
 loop-b-preserved c =
     let p = c.args.payload.now in
     let b = c.loop-b.b in
-    let block = c.write-block.new.block in
-    let n = c.div-ceil-count.result in
+    let block = c.write_block.new.block in
+    let n = c.div_ceil-count.result in
     let made : block ≡ block_of b (take 504 (drop (504 * b) p)) =
-    c.write-block.ensures ∙ ap (block_of b) (part_is_front p (504 * b) c.min-last.result 504 c.min-last.ensures) in
+    c.write_block.ensures ∙ ap (block_of b) (part_is_front p (504 * b) c.min-last.result 504 c.min-last.ensures) in
     let whole : length block ≡ 512 = omega arith in (
       laid_front p c.loop-b.buffer block b n c.loop-b-test.true (omega arith) made whole ∙ c.loop-b.invariant.0,
       laid_behind p c.loop-b.buffer block b n c.loop-b-test.true (omega arith) made whole c.args.buffer.now c.loop-b.invariant.1,
@@ -24,7 +24,7 @@ returns c =
     let p = c.args.payload.now in
     let buffer = c.loop-b.buffer in
     let b = c.loop-b.b in
-    let n = c.div-ceil-count.result in
+    let n = c.div_ceil-count.result in
     let e : n ≡ block_count (length p) = omega arith in
     let f : b ≡ n = omega arith in
     let z : n - b ≡ 0 = omega arith in

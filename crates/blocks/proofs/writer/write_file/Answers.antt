@@ -19,9 +19,9 @@ returns c =
     let needed = c.in-Some.needed in
     let f = has_file (length p) needed c.in-Some.ensures in
     let l : length (blocks_of p) ≡ needed = length_blocks_of p ∙ sym f.2 in
-    let after : c.write-blocks.new.buffer ≡ blocks_of p ++ drop (length (blocks_of p)) old =
-    c.write-blocks.ensures ∙ ap (λ (n : ℕ). blocks_of p ++ drop n old) (sym (length_blocks_of p)) in
-    let front : take needed c.write-blocks.new.buffer ≡ blocks_of p =
+    let after : c.write_blocks.new.buffer ≡ blocks_of p ++ drop (length (blocks_of p)) old =
+    c.write_blocks.ensures ∙ ap (λ (n : ℕ). blocks_of p ++ drop n old) (sym (length_blocks_of p)) in
+    let front : take needed c.write_blocks.new.buffer ≡ blocks_of p =
     ap (take needed) after ∙ take_at (blocks_of p) (drop (length (blocks_of p)) old) needed l in
     record {
       value = grind (arith, nat_tests);

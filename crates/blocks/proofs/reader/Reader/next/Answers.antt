@@ -4,7 +4,7 @@ use Rattle.blocks.specs.Bytes.{head}
 use Rattle.blocks.specs.Reading.{rest}
 use Rattle.blocks.proofs.Walk.{rest_more, marked_none}
 use Rattle.blocks.proofs.reader.Reader.next.Goals as goal
-use Rattle.blocks.proofs.reader.Reader.next.Goals.{else-self-end-via-then-self-end+else-not-enter-block, else-self-end-via-else-self-end}
+use Rattle.blocks.proofs.reader.Reader.next.Goals.{else-self-end-via-then-self-end+else-not-enter_block, else-self-end-via-else-self-end}
 
 pub enter-block-requires : goal.enter-block-requires
 enter-block-requires c =
@@ -24,17 +24,17 @@ returns c =
     let r = c.args.self.now in
     let s = c.else-self-end.self in
     elim c.else-self-end.branch [
-      | else-self-end-via-then-self-end+else-not-enter-block w ↦
+      | else-self-end-via-then-self-end+else-not-enter_block w ↦
           let f = w.self-is in
-          let t = w.enter-block.ensures.test w.if-not-enter-block.false in
-          let e : rest s ≡ rest r = ap rest f ∙ w.enter-block.ensures.after in
+          let t = w.enter_block.ensures.test w.if-not-enter_block.false in
+          let e : rest s ≡ rest r = ap rest f ∙ w.enter_block.ensures.after in
           let p = ap (λ (q : Reader). q.place) f in
           let q = ap (λ (q : Reader). q.end) f in
           let l = ap (λ (q : Reader). length q.file.now) f in
           record {
             value = handed r s e (omega arith) (omega arith);
             after = left r s e (omega arith) (omega arith);
-            same = ap (λ (q : Reader). q.file.now) f ∙ w.enter-block.ensures.same;
+            same = ap (λ (q : Reader). q.file.now) f ∙ w.enter_block.ensures.same;
           }
       | else-self-end-via-else-self-end w ↦
           let f = w.self-is in

@@ -25,7 +25,7 @@ pub returns : goal.returns
 returns c =
     let r = c.args.self.now in
     record {
-      value = three r _ _ _ (omega arith) (omega arith) c.read-u16-first.ensures c.read-u16-second.ensures c.read-u16-third.ensures;
+      value = three r _ _ _ (omega arith) (omega arith) c.read_u16-first.ensures c.read_u16-second.ensures c.read_u16-third.ensures;
       after = passed_over r 6 (omega arith) (omega arith);
       same = refl;
     }

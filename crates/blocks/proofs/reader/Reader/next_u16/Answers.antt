@@ -6,7 +6,7 @@ pub returns : goal.returns
 returns c =
     let r = c.args.self.now in
     record {
-      value = ap (λ (n : ℕ). Some n) c.read-u16-number.ensures ∙ next_number_is r 2 (omega arith) (omega arith);
+      value = ap (λ (n : ℕ). Some n) c.read_u16-number.ensures ∙ next_number_is r 2 (omega arith) (omega arith);
       after = passed_over r 2 (omega arith) (omega arith);
       same = refl;
     }
