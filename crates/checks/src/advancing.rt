@@ -32,7 +32,7 @@ impl Running {
             × Advanced (shape kind.now) self.counts table.old (held store.old) grant p table.new (held store.new) (limit store.new))
             (λ e. (advance_refusal (shape kind.now) self.counts table.old (held store.old) (limit store.old) grant ≡ Some e.1)
             × (e.0 ≡ self) × (table.new ≡ table.old) × (store.new ≡ store.old)) }
-        ensures limit { limit store.new ≡ limit store.old }
+        ensures limit { S.limit store.new ≡ S.limit store.old }
     {
         match ask_advance(self.counts, kind, table, store, grant) {
             Ok(queries) => Ok(self.turns(kind, table, store, queries)),
@@ -48,12 +48,12 @@ impl Running {
         store: &mut S,
         grant: u32,
     ) -> Progress
-        requires { Ready (shape kind.now) self.counts table.old (held store.old) (limit store.old) }
-        ensures like { Like (view result table.new (held store.new))
+        requires { Ready (K.shape kind.now) self.counts table.old (S.held store.old) (S.limit store.old) }
+        ensures like { Like (view result table.new (S.held store.new))
             (queried (shape kind.now) (length table.old) grant (stood self.counts None table.old (held store.old))) }
-        ensures limit { limit store.new ≡ limit store.old }
+        ensures limit { S.limit store.new ≡ S.limit store.old }
         ensures kept { Kept self.counts table.old result table.new }
-        ensures ready { NextReady (shape kind.now) result table.new (held store.new) (limit store.new) }
+        ensures ready { NextReady (K.shape kind.now) result table.new (S.held store.new) (S.limit store.new) }
     {
         let mut running = self;
         for turn in 0..grant {
@@ -74,12 +74,12 @@ impl Running {
         table: &mut [Find<K::Config>],
         store: &mut S,
     ) -> Progress
-        requires { Ready (shape kind.now) self.counts table.old (held store.old) (limit store.old) }
-        ensures like { Like (view result table.new (held store.new))
+        requires { Ready (K.shape kind.now) self.counts table.old (S.held store.old) (S.limit store.old) }
+        ensures like { Like (view result table.new (S.held store.new))
             (query (shape kind.now) (length table.old) (stood self.counts None table.old (held store.old))) }
-        ensures limit { limit store.new ≡ limit store.old }
+        ensures limit { S.limit store.new ≡ S.limit store.old }
         ensures kept { Kept self.counts table.old result table.new }
-        ensures ready { NextReady (shape kind.now) result table.new (held store.new) (limit store.new) }
+        ensures ready { NextReady (K.shape kind.now) result table.new (S.held store.new) (S.limit store.new) }
     {
         let answer = self.expand(kind, table, store);
         self.query(kind, table, store, answer)
@@ -93,7 +93,7 @@ impl Running {
         store: &S,
     ) -> Option<(Move, K::Config)>
         requires { length table.now ≡ self.now.counts.rows }
-        ensures { Answered (shape kind.now) self.now.counts table.now (held store.now) result }
+        ensures { Answered (K.shape kind.now) self.now.counts table.now (S.held store.now) result }
     {
         let row = self.counts.row;
         least_move(kind, store, table[row].configuration)

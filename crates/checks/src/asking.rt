@@ -57,7 +57,7 @@ pub(crate) fn ask_advance<K: Kind, S: Store<K>>(
 // Whether the table is as long as at opening and its recorded rows are as a search records them.
 pub(crate) fn is_unaltered<K: Kind>(counts: Counts, kind: &K, table: &[Find<K::Config>]) -> bool
     requires { counts.finds ≤ counts.rows }
-    ensures { result ≡ unaltered (shape kind.now) counts table.now }
+    ensures { result ≡ unaltered (K.shape kind.now) counts table.now }
 {
     let finds = counts.finds;
     is_as_long(counts, table) && is_intact(kind, counts.starts, &table[0..finds])
@@ -72,14 +72,14 @@ pub(crate) fn is_as_long<C>(counts: Counts, table: &[Find<C>]) -> bool
 
 // Whether the store holds no more than rows are recorded, and may hold as many as the table has rows.
 pub(crate) fn is_store_kept<K: Kind, S: Store<K>>(counts: Counts, store: &S) -> bool
-    ensures { result ≡ store_kept counts (held store.now) (limit store.now) }
+    ensures { result ≡ store_kept counts (S.held store.now) (S.limit store.now) }
 {
     store.size() <= counts.finds && counts.rows <= store.maximum()
 }
 
 // Whether a search of this kind may be made over so many rows.
 fn are_rows_admitted<K: Kind>(kind: &K, rows: usize) -> bool
-    ensures { result ≡ admitted (shape kind.now) rows }
+    ensures { result ≡ admitted (K.shape kind.now) rows }
 {
     admits_rows(kind, rows)
 }

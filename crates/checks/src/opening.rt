@@ -29,7 +29,7 @@ pub fn open<K: Kind, S: Store<K>>(
         × Opened (shape kind.now) table.old p table.new (held store.new) (limit store.new))
         (λ e. (open_refusal (shape kind.now) (length table.old) (held store.old) (limit store.old) ≡ Some e)
         × (table.new ≡ table.old) × (store.new ≡ store.old)) }
-    ensures limit { limit store.new ≡ limit store.old }
+    ensures limit { S.limit store.new ≡ S.limit store.old }
 {
     ask_open(kind, table.len(), store)?;
     Ok(take_firsts(kind, table, store))
@@ -41,9 +41,9 @@ fn take_firsts<K: Kind, S: Store<K>>(
     table: &mut [Find<K::Config>],
     store: &mut S,
 ) -> Progress
-    requires { open_refusal (shape kind.now) (length table.old) (held store.old) (limit store.old) ≡ None }
-    ensures opened { Opened (shape kind.now) table.old result table.new (held store.new) (limit store.new) }
-    ensures limit { limit store.new ≡ limit store.old }
+    requires { open_refusal (K.shape kind.now) (length table.old) (S.held store.old) (S.limit store.old) ≡ None }
+    ensures opened { Opened (K.shape kind.now) table.old result table.new (S.held store.new) (S.limit store.new) }
+    ensures limit { S.limit store.new ≡ S.limit store.old }
 {
     let rows = table.len();
     let mut finds = 0;
@@ -72,11 +72,11 @@ fn put_first<K: Kind, S: Store<K>>(
     x: K::Config,
 )
     requires room { i < length table.old }
-    requires fresh { covered (shape kind.now) (held store.old) x ≡ false }
-    requires space { length (held store.old) < limit store.old }
+    requires fresh { covered (K.shape kind.now) (S.held store.old) x ≡ false }
+    requires space { length (S.held store.old) < S.limit store.old }
     ensures rows { table.new ≡ slice_set table.old i (started x) }
-    ensures items { Reordered (inserted (shape kind.now) x (held store.old)) (held store.new) }
-    ensures limit { limit store.new ≡ limit store.old }
+    ensures items { Reordered (inserted (K.shape kind.now) x (S.held store.old)) (S.held store.new) }
+    ensures limit { S.limit store.new ≡ S.limit store.old }
 {
     let find = Find {
         configuration: x,

@@ -22,13 +22,13 @@ impl Running {
         store: &mut S,
         answer: Option<(Move, K::Config)>,
     ) -> Progress
-        requires ready { Ready (shape kind.now) self.counts table.old (held store.old) (limit store.old) }
-        requires answered { Answered (shape kind.now) self.counts table.old (held store.old) answer }
+        requires ready { Ready (K.shape kind.now) self.counts table.old (S.held store.old) (S.limit store.old) }
+        requires answered { Answered (K.shape kind.now) self.counts table.old (S.held store.old) answer }
         ensures counts { counts_of result ≡ made_counts self.counts (length table.old) answer }
-        ensures verdict { verdict_of result ≡ made_verdict (shape kind.now) self.counts (length table.old) answer }
+        ensures verdict { verdict_of result ≡ made_verdict (K.shape kind.now) self.counts (length table.old) answer }
         ensures rows { table.new ≡ made_rows self.counts table.old answer }
-        ensures items { Put (shape kind.now) (made_item self.counts (length table.old) answer) (held store.old) (held store.new) }
-        ensures limit { limit store.new ≡ limit store.old }
+        ensures items { Put (K.shape kind.now) (made_item self.counts (length table.old) answer) (S.held store.old) (S.held store.new) }
+        ensures limit { S.limit store.new ≡ S.limit store.old }
     {
         let Some((k, x)) = answer else {
             return self.close();
@@ -83,16 +83,16 @@ fn note_find<K: Kind, S: Store<K>>(
     k: Move,
     x: K::Config,
 ) -> Counts
-    requires ready { Ready (shape kind.now) counts table.old (held store.old) (limit store.old) }
+    requires ready { Ready (K.shape kind.now) counts table.old (S.held store.old) (S.limit store.old) }
     requires here { counts.row < counts.finds }
     requires room { counts.finds < length table.old }
     requires small { length table.old ≤ 4096 }
     requires counted { counts.queries + counts.starts ≡ counts.finds + counts.row }
-    requires fresh { covered (shape kind.now) (held store.old) x ≡ false }
+    requires fresh { covered (K.shape kind.now) (S.held store.old) x ≡ false }
     ensures value { result ≡ noted counts }
     ensures rows { table.new ≡ slice_set table.old counts.finds (new_row counts table.old k x) }
-    ensures items { Reordered (inserted (shape kind.now) x (held store.old)) (held store.new) }
-    ensures limit { limit store.new ≡ limit store.old }
+    ensures items { Reordered (inserted (K.shape kind.now) x (S.held store.old)) (S.held store.new) }
+    ensures limit { S.limit store.new ≡ S.limit store.old }
 {
     let length = table[counts.row].length + 1;
     let find = Find {

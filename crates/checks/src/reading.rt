@@ -21,7 +21,7 @@ use stores::Store;
 impl Progress {
     // The verdict, if there is one, and the counts. Refused if the table is not as the check left it.
     pub fn tally<K: Kind>(&self, kind: &K, table: &[Find<K::Config>]) -> Result<Tally, Refused>
-        ensures { result ≡ tallied (shape kind.now) self.now table.now }
+        ensures { result ≡ tallied (K.shape kind.now) self.now table.now }
     {
         let counts = self.counts();
         if !is_unaltered(counts, kind, table) {
@@ -43,7 +43,7 @@ impl Progress {
         table: &[Find<K::Config>],
         row: usize,
     ) -> Result<Find<K::Config>, Refused>
-        ensures { result ≡ looked (shape kind.now) self.now table.now row }
+        ensures { result ≡ looked (K.shape kind.now) self.now table.now row }
     {
         let counts = self.counts();
         if !is_unaltered(counts, kind, table) {
@@ -102,7 +102,7 @@ impl Matched {
         table: &[Find<K::Config>],
         list: &mut [Event],
     ) -> Result<usize, Refused>
-        ensures { Answered (sequence (shape kind.now) (view (progress.Matched self.now) table.now []))
+        ensures { Answered (sequence (K.shape kind.now) (view (progress.Matched self.now) table.now []))
             (sequence_asked (shape kind.now) self.now.counts table.now (length list.old)) list.old list.new result }
     {
         let finds = self.counts.finds;
@@ -123,7 +123,7 @@ impl Never {
         store: &S,
         list: &mut [K::Config],
     ) -> Result<usize, Refused>
-        ensures { Answered (certificate (shape kind.now) (view (progress.Never self.now) table.now (held store.now)))
+        ensures { Answered (certificate (K.shape kind.now) (view (progress.Never self.now) table.now (S.held store.now)))
             (certificate_asked (shape kind.now) self.now.counts table.now (held store.now) (limit store.now) (length list.old)) list.old list.new result }
     {
         let counts = self.counts;

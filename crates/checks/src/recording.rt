@@ -16,11 +16,11 @@ pub(crate) fn record_find<K: Kind, S: Store<K>>(
     find: Find<K::Config>,
 )
     requires room { i < length table.old }
-    requires fresh { covered (shape kind.now) (held store.old) find.configuration ≡ false }
-    requires space { length (held store.old) < limit store.old }
+    requires fresh { covered (K.shape kind.now) (S.held store.old) find.configuration ≡ false }
+    requires space { length (S.held store.old) < S.limit store.old }
     ensures rows { table.new ≡ slice_set table.old i find }
-    ensures items { Reordered (inserted (shape kind.now) find.configuration (held store.old)) (held store.new) }
-    ensures limit { limit store.new ≡ limit store.old }
+    ensures items { Reordered (inserted (K.shape kind.now) find.configuration (S.held store.old)) (S.held store.new) }
+    ensures limit { S.limit store.new ≡ S.limit store.old }
 {
     let x = find.configuration;
     table[i] = find;

@@ -16,7 +16,7 @@ pub fn write_certificate<K: Kind, S: Store<K>>(
     finds: &[Find<K::Config>],
     list: &mut [K::Config],
 ) -> Result<usize, Refused>
-    ensures { Answered (certificate_of (shape kind.now) (held store.now) finds.now) (certificate_refusal (shape kind.now) (held store.now) finds.now (length list.old)) list.old list.new result }
+    ensures { Answered (certificate_of (K.shape kind.now) (S.held store.now) finds.now) (certificate_refusal (K.shape kind.now) (S.held store.now) finds.now (length list.old)) list.old list.new result }
 {
     let count = count_held(kind, store, finds);
     if list.len() < count {
@@ -28,7 +28,7 @@ pub fn write_certificate<K: Kind, S: Store<K>>(
 
 // How many rows have a configuration that the store holds.
 fn count_held<K: Kind, S: Store<K>>(kind: &K, store: &S, finds: &[Find<K::Config>]) -> usize
-    ensures { result ≡ length (certificate_of (shape kind.now) (held store.now) finds.now) }
+    ensures { result ≡ length (certificate_of (K.shape kind.now) (S.held store.now) finds.now) }
 {
     let mut count = 0;
     for i in 0..finds.len() {
@@ -46,8 +46,8 @@ fn write_held<K: Kind, S: Store<K>>(
     finds: &[Find<K::Config>],
     list: &mut [K::Config],
 )
-    requires { length (certificate_of (shape kind.now) (held store.now) finds.now) ≤ length list.old }
-    ensures { list.new ≡ certificate_of (shape kind.now) (held store.now) finds.now ++ drop (length (certificate_of (shape kind.now) (held store.now) finds.now)) list.old }
+    requires { length (certificate_of (K.shape kind.now) (S.held store.now) finds.now) ≤ length list.old }
+    ensures { list.new ≡ certificate_of (K.shape kind.now) (S.held store.now) finds.now ++ drop (length (certificate_of (K.shape kind.now) (S.held store.now) finds.now)) list.old }
 {
     let mut count = 0;
     for i in 0..finds.len() {
@@ -60,7 +60,7 @@ fn write_held<K: Kind, S: Store<K>>(
 
 // Yes if and only if the store holds this row's configuration.
 fn is_held<K: Kind, S: Store<K>>(kind: &K, store: &S, find: &Find<K::Config>) -> bool
-    ensures { result ≡ alike (shape kind.now) (held store.now) find.now.configuration }
+    ensures { result ≡ alike (K.shape kind.now) (S.held store.now) find.now.configuration }
 {
     store.holds(kind, find.configuration)
 }

@@ -13,7 +13,7 @@ pub fn least_move<K: Kind, S: Store<K>>(
     store: &S,
     y: K::Config,
 ) -> Option<(Move, K::Config)>
-    ensures { result ≡ least_move_of (shape kind.now) (held store.now) y }
+    ensures { result ≡ least_move_of (K.shape kind.now) (S.held store.now) y }
 {
     for k in 0..kind.moves() {
         if let Some(x) = kind.back(k, y) {

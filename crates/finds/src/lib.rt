@@ -17,15 +17,15 @@ pub mod sequences;
 // those has length 0, and each other row an earlier row as its origin, that row's length and one, and a move that the
 // kind has. The configurations are not looked at.
 pub fn is_intact<K: Kind>(kind: &K, starts: usize, finds: &[Find<K::Config>]) -> bool
-    ensures value { result ≡ intact (shape kind.now) starts finds.now }
-    ensures test { Decides result (Intact (shape kind.now) starts finds.now) }
+    ensures value { result ≡ intact (K.shape kind.now) starts finds.now }
+    ensures test { Decides result (Intact (K.shape kind.now) starts finds.now) }
 {
     are_in_place(kind, starts, finds)
 }
 
 // Yes if and only if every row is in place.
 fn are_in_place<K: Kind>(kind: &K, starts: usize, finds: &[Find<K::Config>]) -> bool
-    ensures { result ≡ intact (shape kind.now) starts finds.now }
+    ensures { result ≡ intact (K.shape kind.now) starts finds.now }
 {
     for i in 0..finds.len() {
         if !is_in_place(kind, starts, finds, i) {
@@ -38,7 +38,7 @@ fn are_in_place<K: Kind>(kind: &K, starts: usize, finds: &[Find<K::Config>]) -> 
 // Yes if and only if row i is in place: among the first rows by its length, otherwise by where it came from.
 fn is_in_place<K: Kind>(kind: &K, starts: usize, finds: &[Find<K::Config>], i: usize) -> bool
     requires { i < length finds.now }
-    ensures { result ≡ has_such (stands_in_place (shape kind.now) starts finds.now i) (slice_get finds.now i) }
+    ensures { result ≡ has_such (stands_in_place (K.shape kind.now) starts finds.now i) (slice_get finds.now i) }
 {
     if i < starts {
         return finds[i].length == 0;
@@ -49,7 +49,7 @@ fn is_in_place<K: Kind>(kind: &K, starts: usize, finds: &[Find<K::Config>], i: u
 // Yes if and only if row i came from an earlier row by a move that the kind has, and is one longer.
 fn comes_after<K: Kind>(kind: &K, finds: &[Find<K::Config>], i: usize) -> bool
     requires { i < length finds.now }
-    ensures { result ≡ has_such (came_after (shape kind.now) finds.now i) (slice_get finds.now i) }
+    ensures { result ≡ has_such (came_after (K.shape kind.now) finds.now i) (slice_get finds.now i) }
 {
     let origin = finds[i].origin;
     if origin >= i {

@@ -19,8 +19,8 @@ pub fn write_sequence<K: Kind>(
     finds: &[Find<K::Config>],
     list: &mut [Event],
 ) -> Result<usize, Refused>
-    ensures cases { Answered (sequence_of (shape kind.now) finds.now) (sequence_refusal (shape kind.now) starts finds.now (length list.old)) list.old list.new result }
-    ensures ok { OnOk result (intact (shape kind.now) starts finds.now ≡ true) }
+    ensures cases { Answered (sequence_of (K.shape kind.now) finds.now) (sequence_refusal (K.shape kind.now) starts finds.now (length list.old)) list.old list.new result }
+    ensures ok { OnOk result (intact (K.shape kind.now) starts finds.now ≡ true) }
 {
     if !is_intact(kind, starts, finds) {
         return Err(Refused::Altered);
@@ -48,7 +48,7 @@ fn write_events<K: Kind>(kind: &K, finds: &[Find<K::Config>], list: &mut [Event]
     requires chained { Chained finds.now }
     requires count { count ≡ length_at finds.now (last_of finds.now) }
     requires room { count ≤ length list.old }
-    ensures { list.new ≡ sequence_of (shape kind.now) finds.now ++ drop count list.old }
+    ensures { list.new ≡ sequence_of (K.shape kind.now) finds.now ++ drop count list.old }
 {
     let mut row = finds.len().saturating_sub(1);
     for i in 0..count {

@@ -20,10 +20,10 @@ pub const MAX_ENTRIES: usize = 4_096;
 // first configuration, no entry is a goal, and it covers all that a move leads back to from an entry. If it passes,
 // the kind accepts no list of moves and no sequence of events. If not, the answer says at what it failed first.
 pub fn inspect<K: Kind>(kind: &K, list: &[K::Config]) -> Result<Inspection, Refused>
-    ensures value { result ≡ inspected (shape kind.now) list.now }
-    ensures cases { Says (shape kind.now) list.now result }
-    ensures test { PassesExactly (shape kind.now) list.now result }
-    ensures ok { result ≡ Ok Inspection.Passed → NothingAccepted (shape kind.now) }
+    ensures value { result ≡ inspected (K.shape kind.now) list.now }
+    ensures cases { Says (K.shape kind.now) list.now result }
+    ensures test { PassesExactly (K.shape kind.now) list.now result }
+    ensures ok { result ≡ Ok Inspection.Passed → NothingAccepted (K.shape kind.now) }
 {
     if is_too_long(list) {
         return Err(Refused::TooLong);
@@ -43,7 +43,7 @@ fn is_too_long<C>(list: &[C]) -> bool
 
 // The least entry that does not fit the kind.
 fn first_unfit<K: Kind>(kind: &K, list: &[K::Config]) -> Option<usize>
-    ensures { Earliest (shape kind.now).fits false list.now result }
+    ensures { Earliest (K.shape kind.now).fits false list.now result }
 {
     for (i, y) in list.iter().enumerate() {
         if !kind.fits(*y) {
@@ -55,7 +55,7 @@ fn first_unfit<K: Kind>(kind: &K, list: &[K::Config]) -> Option<usize>
 
 // What a list whose entries all fit is found to be.
 fn examine<K: Kind>(kind: &K, list: &[K::Config]) -> Inspection
-    ensures { Examined (shape kind.now) list.now result }
+    ensures { Examined (K.shape kind.now) list.now result }
 {
     if let Some(first) = first_uncovered(kind, list) {
         return Inspection::First(first);
@@ -71,7 +71,7 @@ fn examine<K: Kind>(kind: &K, list: &[K::Config]) -> Inspection
 
 // The least first configuration that the list does not cover.
 fn first_uncovered<K: Kind>(kind: &K, list: &[K::Config]) -> Option<usize>
-    ensures { LeastUncovered (shape kind.now) list.now result }
+    ensures { LeastUncovered (K.shape kind.now) list.now result }
 {
     for i in 0..kind.first_count() {
         if let Some(x) = kind.first(i) {
@@ -85,7 +85,7 @@ fn first_uncovered<K: Kind>(kind: &K, list: &[K::Config]) -> Option<usize>
 
 // The least entry that is a goal.
 fn first_goal<K: Kind>(kind: &K, list: &[K::Config]) -> Option<usize>
-    ensures { Earliest (shape kind.now).goal true list.now result }
+    ensures { Earliest (K.shape kind.now).goal true list.now result }
 {
     for (i, y) in list.iter().enumerate() {
         if kind.goal(*y) {
@@ -97,7 +97,7 @@ fn first_goal<K: Kind>(kind: &K, list: &[K::Config]) -> Option<usize>
 
 // The least entry from which a move leads back to what the list does not cover, and the least such move.
 fn first_escape<K: Kind>(kind: &K, list: &[K::Config]) -> Option<(usize, Move)>
-    ensures { LeastEscape (shape kind.now) list.now result }
+    ensures { LeastEscape (K.shape kind.now) list.now result }
 {
     let mut found = None;
     'entries: for (i, y) in list.iter().enumerate() {

@@ -72,15 +72,15 @@ pub trait Kind {
 
 // Yes if and only if some entry of the list covers x.
 pub fn covers<K: Kind>(kind: &K, list: &[K::Config], x: K::Config) -> bool
-    ensures value { result ≡ covered (shape kind.now) list.now x }
-    ensures test { Decides result (CoveringEntry (shape kind.now) list.now x) }
+    ensures value { result ≡ covered (K.shape kind.now) list.now x }
+    ensures test { Decides result (CoveringEntry (K.shape kind.now) list.now x) }
 {
     covering_entry(kind, list, x).is_some()
 }
 
 // The least entry of the list that covers x.
 fn covering_entry<K: Kind>(kind: &K, list: &[K::Config], x: K::Config) -> Option<usize>
-    ensures { Earliest ((shape kind.now).within x) true list.now result }
+    ensures { Earliest ((K.shape kind.now).within x) true list.now result }
 {
     for (i, y) in list.iter().enumerate() {
         if kind.within(x, *y) {

@@ -33,7 +33,7 @@ pub fn run_pattern<'a, S: Store<Single<'a>>>(
         × PatternRan (single_pattern pattern.now) table.old script.old p table.new (held store.new) (limit store.new) script.new)
         (λ e. (open_refusal (pattern_shape (single_pattern pattern.now)) (length table.old) (held store.old) (limit store.old) ≡ Some e)
         × (table.new ≡ table.old) × (store.new ≡ store.old) × (script.new ≡ script.old)) }
-    ensures limit { limit store.new ≡ limit store.old }
+    ensures limit { S.limit store.new ≡ S.limit store.old }
 {
     run_alone(pattern, table, store, script)
 }
@@ -50,7 +50,7 @@ pub fn run_joint<'a, S: Store<Joint<'a>>>(
         × JointRan (joint_pattern joint.now) (joint_model joint.now) table.old script.old p table.new (held store.new) (limit store.new) script.new)
         (λ e. (open_refusal (joint_shape (joint_pattern joint.now) (joint_model joint.now)) (length table.old) (held store.old) (limit store.old) ≡ Some e)
         × (table.new ≡ table.old) × (store.new ≡ store.old) × (script.new ≡ script.old)) }
-    ensures limit { limit store.new ≡ limit store.old }
+    ensures limit { S.limit store.new ≡ S.limit store.old }
 {
     run_together(joint, table, store, script)
 }
@@ -67,7 +67,7 @@ fn run_alone<'a, S: Store<Single<'a>>>(
         × Ran (pattern_shape (single_pattern pattern.now)) table.old script.old p table.new (held store.new) (limit store.new) script.new)
         (λ e. (open_refusal (pattern_shape (single_pattern pattern.now)) (length table.old) (held store.old) (limit store.old) ≡ Some e)
         × (table.new ≡ table.old) × (store.new ≡ store.old) × (script.new ≡ script.old)) }
-    ensures limit { limit store.new ≡ limit store.old }
+    ensures limit { S.limit store.new ≡ S.limit store.old }
 {
     run(pattern, table, store, script)
 }
@@ -84,7 +84,7 @@ fn run_together<'a, S: Store<Joint<'a>>>(
         × Ran (joint_shape (joint_pattern joint.now) (joint_model joint.now)) table.old script.old p table.new (held store.new) (limit store.new) script.new)
         (λ e. (open_refusal (joint_shape (joint_pattern joint.now) (joint_model joint.now)) (length table.old) (held store.old) (limit store.old) ≡ Some e)
         × (table.new ≡ table.old) × (store.new ≡ store.old) × (script.new ≡ script.old)) }
-    ensures limit { limit store.new ≡ limit store.old }
+    ensures limit { S.limit store.new ≡ S.limit store.old }
 {
     run(joint, table, store, script)
 }

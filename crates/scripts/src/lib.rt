@@ -64,7 +64,7 @@ pub fn run<K: Kind, S: Store<K>>(
         × Ran (shape kind.now) table.old script.old p table.new (held store.new) (limit store.new) script.new)
         (λ e. (open_refusal (shape kind.now) (length table.old) (held store.old) (limit store.old) ≡ Some e)
         × (table.new ≡ table.old) × (store.new ≡ store.old) × (script.new ≡ script.old)) }
-    ensures limit { limit store.new ≡ limit store.old }
+    ensures limit { S.limit store.new ≡ S.limit store.old }
 {
     let mut progress = open(kind, table, store)?;
     for i in 0..script.len() {
@@ -84,9 +84,9 @@ fn act<K: Kind, S: Store<K>>(
     store: &mut S,
     call: Call,
 ) -> (Progress, Answer<K::Config>)
-    requires { Ready (shape kind.now) (counts_of progress) table.old (held store.old) (limit store.old) }
-    ensures acted { Acted (shape kind.now) progress table.old (held store.old) call result.0 table.new (held store.new) result.1 }
-    ensures limit { limit store.new ≡ limit store.old }
+    requires { Ready (K.shape kind.now) (counts_of progress) table.old (S.held store.old) (S.limit store.old) }
+    ensures acted { Acted (K.shape kind.now) progress table.old (S.held store.old) call result.0 table.new (S.held store.new) result.1 }
+    ensures limit { S.limit store.new ≡ S.limit store.old }
 {
     match call {
         Call::Advance(grant) => advance(progress, kind, table, store, grant),
@@ -109,9 +109,9 @@ fn advance<K: Kind, S: Store<K>>(
     store: &mut S,
     grant: u32,
 ) -> (Progress, Answer<K::Config>)
-    requires { Ready (shape kind.now) (counts_of progress) table.old (held store.old) (limit store.old) }
-    ensures acted { Acted (shape kind.now) progress table.old (held store.old) (Call.Advance grant) result.0 table.new (held store.new) result.1 }
-    ensures limit { limit store.new ≡ limit store.old }
+    requires { Ready (K.shape kind.now) (counts_of progress) table.old (S.held store.old) (S.limit store.old) }
+    ensures acted { Acted (K.shape kind.now) progress table.old (S.held store.old) (Call.Advance grant) result.0 table.new (S.held store.new) result.1 }
+    ensures limit { S.limit store.new ≡ S.limit store.old }
 {
     match progress {
         Progress::Running(running) => advance_running(running, kind, table, store, grant),
@@ -131,9 +131,9 @@ fn advance_running<K: Kind, S: Store<K>>(
     store: &mut S,
     grant: u32,
 ) -> (Progress, Answer<K::Config>)
-    requires { Ready (shape kind.now) running.counts table.old (held store.old) (limit store.old) }
-    ensures acted { Acted (shape kind.now) (progress.Running running) table.old (held store.old) (Call.Advance grant) result.0 table.new (held store.new) result.1 }
-    ensures limit { limit store.new ≡ limit store.old }
+    requires { Ready (K.shape kind.now) running.counts table.old (S.held store.old) (S.limit store.old) }
+    ensures acted { Acted (K.shape kind.now) (progress.Running running) table.old (S.held store.old) (Call.Advance grant) result.0 table.new (S.held store.new) result.1 }
+    ensures limit { S.limit store.new ≡ S.limit store.old }
 {
     match running.advance(kind, table, store, grant) {
         Ok(next) => {
@@ -159,7 +159,7 @@ fn granted_after<C>(grant: u32, verdict: Verdict) -> Answer<C>
 }
 
 fn tally<K: Kind>(progress: &Progress, kind: &K, table: &[Find<K::Config>]) -> Answer<K::Config>
-    requires { unaltered (shape kind.now) (counts_of progress.now) table.now ≡ true }
+    requires { unaltered (K.shape kind.now) (counts_of progress.now) table.now ≡ true }
     ensures { result ≡ answer_to (view progress.now table.now []) Call.Tally }
 {
     match progress.tally(kind, table) {
@@ -174,7 +174,7 @@ fn look<K: Kind>(
     table: &[Find<K::Config>],
     row: usize,
 ) -> Answer<K::Config>
-    requires { unaltered (shape kind.now) (counts_of progress.now) table.now ≡ true }
+    requires { unaltered (K.shape kind.now) (counts_of progress.now) table.now ≡ true }
     ensures { result ≡ answer_to (view progress.now table.now []) (Call.Look row) }
 {
     match progress.look(kind, table, row) {

@@ -47,9 +47,9 @@ pub const MAX_ROWS: usize = 4_096;
 // them, and no fewer than first configurations. Every search over such a table keeps what searches promise, and no
 // search depends on the order in which its store holds configurations.
 pub fn admits_rows<K: Kind>(kind: &K, rows: usize) -> bool
-    ensures test { Decides result (Admits (shape kind.now) rows) }
-    ensures keeps_promise { KeepsPromise (shape kind.now) }
-    ensures order_free { OrderFree (shape kind.now) }
+    ensures test { Decides result (Admits (K.shape kind.now) rows) }
+    ensures keeps_promise { KeepsPromise (K.shape kind.now) }
+    ensures order_free { OrderFree (K.shape kind.now) }
 {
     are_rows_for(kind.first_count(), rows)
 }

@@ -31,11 +31,11 @@ pub trait Store<K: Kind> {
 
     // Yes if and only if some held configuration covers x.
     fn covers(&self, kind: &K, x: K::Config) -> bool
-        ensures { result ≡ covered (shape kind.now) (held self.now) x };
+        ensures { result ≡ covered (K.shape kind.now) (held self.now) x };
 
     // Yes if and only if x and some held configuration are within each other.
     fn holds(&self, kind: &K, x: K::Config) -> bool
-        ensures { result ≡ alike (shape kind.now) (held self.now) x };
+        ensures { result ≡ alike (K.shape kind.now) (held self.now) x };
 
     // How many configurations are held.
     fn size(&self) -> usize
@@ -49,10 +49,10 @@ pub trait Store<K: Kind> {
     // are held as can be, even if x would cover some of them. A refusal leaves the store as it was. The maximum never
     // changes, and if none was within another, none is after it.
     fn insert(&mut self, kind: &K, x: K::Config) -> Result<(), Refused>
-        ensures value { result ≡ admitted (shape kind.now) x (held self.old) (limit self.old) }
-        ensures items { MatchResult result (λ _. Reordered (inserted (shape kind.now) x (held self.old)) (held self.new)) (λ _. self.new ≡ self.old) }
+        ensures value { result ≡ admitted (K.shape kind.now) x (held self.old) (limit self.old) }
+        ensures items { MatchResult result (λ _. Reordered (inserted (K.shape kind.now) x (held self.old)) (held self.new)) (λ _. self.new ≡ self.old) }
         ensures limit { limit self.new ≡ limit self.old }
-        ensures apart { Apart (shape kind.now) (held self.old) → Apart (shape kind.now) (held self.new) };
+        ensures apart { Apart (K.shape kind.now) (held self.old) → Apart (K.shape kind.now) (held self.new) };
 }
 
 // Has the store cover x: puts x in unless it is covered already, and answers whether it was put in. Refused if and
@@ -65,12 +65,12 @@ pub fn insert_new<K: Kind, S: Store<K>>(
     kind: &K,
     x: K::Config,
 ) -> Result<bool, Refused>
-    ensures value { result ≡ answered_new (shape kind.now) x (held store.old) (limit store.old) }
-    ensures items { IfPut result (Reordered (inserted (shape kind.now) x (held store.old)) (held store.new)) (store.new ≡ store.old) }
-    ensures limit { limit store.new ≡ limit store.old }
-    ensures apart { Apart (shape kind.now) (held store.old) → Apart (shape kind.now) (held store.new) }
-    ensures ok { OnOk result (Grows (shape kind.now) x (held store.old) (held store.new)) }
-    ensures test { result ≡ Ok true → (shape kind.now).fits x ≡ true → alike (shape kind.now) (held store.new) x ≡ true }
+    ensures value { result ≡ answered_new (K.shape kind.now) x (S.held store.old) (S.limit store.old) }
+    ensures items { IfPut result (Reordered (inserted (K.shape kind.now) x (S.held store.old)) (S.held store.new)) (store.new ≡ store.old) }
+    ensures limit { S.limit store.new ≡ S.limit store.old }
+    ensures apart { Apart (K.shape kind.now) (S.held store.old) → Apart (K.shape kind.now) (S.held store.new) }
+    ensures ok { OnOk result (Grows (K.shape kind.now) x (S.held store.old) (S.held store.new)) }
+    ensures test { result ≡ Ok true → (K.shape kind.now).fits x ≡ true → alike (K.shape kind.now) (S.held store.new) x ≡ true }
 {
     put_uncovered(store, kind, x)
 }
@@ -81,10 +81,10 @@ fn put_uncovered<K: Kind, S: Store<K>>(
     kind: &K,
     x: K::Config,
 ) -> Result<bool, Refused>
-    ensures value { result ≡ answered_new (shape kind.now) x (held store.old) (limit store.old) }
-    ensures items { IfPut result (Reordered (inserted (shape kind.now) x (held store.old)) (held store.new)) (store.new ≡ store.old) }
-    ensures limit { limit store.new ≡ limit store.old }
-    ensures apart { Apart (shape kind.now) (held store.old) → Apart (shape kind.now) (held store.new) }
+    ensures value { result ≡ answered_new (K.shape kind.now) x (S.held store.old) (S.limit store.old) }
+    ensures items { IfPut result (Reordered (inserted (K.shape kind.now) x (S.held store.old)) (S.held store.new)) (store.new ≡ store.old) }
+    ensures limit { S.limit store.new ≡ S.limit store.old }
+    ensures apart { Apart (K.shape kind.now) (S.held store.old) → Apart (K.shape kind.now) (S.held store.new) }
 {
     if store.covers(kind, x) {
         return Ok(false);

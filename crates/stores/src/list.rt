@@ -73,14 +73,14 @@ fn filled<C>(rows: &[C], len: usize) -> &[C]
 
 // Yes if and only if x and some entry of the list are within each other.
 fn has_alike<K: Kind>(kind: &K, list: &[K::Config], x: K::Config) -> bool
-    ensures { result ≡ alike (shape kind.now) list.now x }
+    ensures { result ≡ alike (K.shape kind.now) list.now x }
 {
     alike_entry(kind, list, x).is_some()
 }
 
 // The least entry of the list such that it and x are within each other.
 fn alike_entry<K: Kind>(kind: &K, list: &[K::Config], x: K::Config) -> Option<usize>
-    ensures { Earliest (equivalent (shape kind.now) x) true list.now result }
+    ensures { Earliest (equivalent (K.shape kind.now) x) true list.now result }
 {
     for (i, y) in list.iter().enumerate() {
         if are_alike(kind, x, *y) {
@@ -92,14 +92,14 @@ fn alike_entry<K: Kind>(kind: &K, list: &[K::Config], x: K::Config) -> Option<us
 
 // Yes if and only if x and y are within each other.
 fn are_alike<K: Kind>(kind: &K, x: K::Config, y: K::Config) -> bool
-    ensures { result ≡ equivalent (shape kind.now) x y }
+    ensures { result ≡ equivalent (K.shape kind.now) x y }
 {
     kind.within(x, y) && kind.within(y, x)
 }
 
 // Done if x may join the rows in use: it is not covered by them, and there is a row left.
 fn admit<K: Kind>(kind: &K, rows: &[K::Config], len: usize, x: K::Config) -> Result<(), Refused>
-    ensures { result ≡ admitted (shape kind.now) x (take len rows.now) (length rows.now) }
+    ensures { result ≡ admitted (K.shape kind.now) x (take len rows.now) (length rows.now) }
 {
     let held = filled(rows, len);
     if covers(kind, held, x) {
@@ -115,7 +115,7 @@ fn admit<K: Kind>(kind: &K, rows: &[K::Config], len: usize, x: K::Config) -> Res
 // in use then.
 fn exchange<K: Kind>(kind: &K, rows: &mut [K::Config], len: usize, x: K::Config) -> usize
     requires { len < length rows.old }
-    ensures { take result rows.new ≡ inserted (shape kind.now) x (take len rows.old) }
+    ensures { take result rows.new ≡ inserted (K.shape kind.now) x (take len rows.old) }
 {
     let mut count = 0;
     for i in 0..len {

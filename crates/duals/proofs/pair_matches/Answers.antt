@@ -18,7 +18,7 @@ returns c =
     let G = is_formed c.args.later.now in
     let F = is_formed c.args.earlier.now in
     record {
-      accepted = c.matches-alone.ensures;
+      accepted = c.matches_alone.ensures;
       pattern = λ s. meets (without B A) (pair_formed B A G F s);
       separated = separates B A G F;
     }

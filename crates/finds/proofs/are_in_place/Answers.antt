@@ -9,8 +9,8 @@ pub loop-i-init : goal.loop-i-init
 unfolding intact_before
 loop-i-init g c = refl
 
-pub returns-then-not-is-in-place : goal.returns-then-not-is-in-place
-returns-then-not-is-in-place g c =
+pub returns-then-not-is_in_place : goal.returns-then-not-is_in_place
+returns-then-not-is_in_place g c =
     let s = g.K.Kind.shape c.args.kind.now in
     let fs = c.args.finds.now in
     let i = c.loop-i.i in

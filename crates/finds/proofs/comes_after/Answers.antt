@@ -5,14 +5,14 @@ pub returns-then-origin-i : goal.returns-then-origin-i
 returns-then-origin-i g c =
     too_late (g.K.Kind.shape c.args.kind.now) c.args.finds.now c.args.i c.requires c.index-finds-i.result c.if-origin-i.true
 
-pub returns-then-is-one-more : goal.returns-then-is-one-more
-returns-then-is-one-more g c =
+pub returns-then-is_one_more : goal.returns-then-is_one_more
+returns-then-is_one_more g c =
     by_move (g.K.Kind.shape c.args.kind.now) c.args.finds.now c.args.i c.requires
     c.index-finds-i.result c.index-finds-i-2.result c.index-finds-origin.result c.if-origin-i.false
-    c.is-one-more.result c.is-one-more.ensures c.index-finds-i-then-is-one-more.result c.moves.result c.moves.ensures c.if-is-one-more.true
+    c.is_one_more.result c.is_one_more.ensures c.index-finds-i-then-is_one_more.result c.moves.result c.moves.ensures c.if-is_one_more.true
 
-pub returns-else-is-one-more : goal.returns-else-is-one-more
-returns-else-is-one-more g c =
+pub returns-else-is_one_more : goal.returns-else-is_one_more
+returns-else-is_one_more g c =
     not_longer (g.K.Kind.shape c.args.kind.now) c.args.finds.now c.args.i c.requires
     c.index-finds-i.result c.index-finds-i-2.result c.index-finds-origin.result c.if-origin-i.false
-    c.is-one-more.result c.is-one-more.ensures c.if-is-one-more.false
+    c.is_one_more.result c.is_one_more.ensures c.if-is_one_more.false

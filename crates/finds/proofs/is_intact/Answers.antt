@@ -7,5 +7,5 @@ pub returns : goal.returns
 returns g c =
     let s = g.K.Kind.shape c.args.kind.now in
     let fs = c.args.finds.now in
-    let value = c.are-in-place.ensures in
-    record { value = value; test = Decides-at c.are-in-place.result (intact s c.args.starts fs) value (intact_decides s c.args.starts fs) }
+    let value = c.are_in_place.ensures in
+    record { value = value; test = Decides-at c.are_in_place.result (intact s c.args.starts fs) value (intact_decides s c.args.starts fs) }

@@ -9,7 +9,7 @@ returns c =
     let A = patterns.read c.args.parts in
     let M = models.read c.args.model in
     record {
-      value = c.examine-joint.ensures;
-      ok = λ e. passed_never_together A M c.args.list.now (sym c.examine-joint.ensures ∙ e);
+      value = c.examine_joint.ensures;
+      ok = λ e. passed_never_together A M c.args.list.now (sym c.examine_joint.ensures ∙ e);
       accepted = accepts_jointly A M;
     }

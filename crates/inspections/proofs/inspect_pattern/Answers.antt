@@ -7,7 +7,7 @@ pub returns : goal.returns
 returns c =
     let A = read c.args.parts in
     record {
-      value = c.examine-pattern.ensures;
-      ok = λ e. passed_never A c.args.list.now (sym c.examine-pattern.ensures ∙ e);
+      value = c.examine_pattern.ensures;
+      ok = λ e. passed_never A c.args.list.now (sym c.examine_pattern.ensures ∙ e);
       accepted = accepts A;
     }

@@ -8,5 +8,5 @@ pub returns : goal.returns
 returns g c =
     let s = g.K.Kind.shape c.args.kind.now in
     let xs = c.args.list.now in
-    let value : c.is-some.result ≡ covered s xs c.args.x = c.is-some.ensures ∙ found_covered s xs c.args.x c.covering-entry.result c.covering-entry.ensures in
-    record { value = value; test = Decides-at c.is-some.result (covered s xs c.args.x) value (covered_decides s xs c.args.x) }
+    let value : c.is_some.result ≡ covered s xs c.args.x = c.is_some.ensures ∙ found_covered s xs c.args.x c.covering_entry.result c.covering_entry.ensures in
+    record { value = value; test = Decides-at c.is_some.result (covered s xs c.args.x) value (covered_decides s xs c.args.x) }

@@ -22,4 +22,4 @@ worked = record {
 }
 
 pub returns : goal.returns
-returns c = record { value = c.pair-in-tables.ensures; worked = worked }
+returns c = record { value = c.pair_in_tables.ensures; worked = worked }

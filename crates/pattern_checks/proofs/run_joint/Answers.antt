@@ -13,7 +13,7 @@ returns g c =
     let M = joint_model j in
     let accepting = joint_acceptance A M (patterns.formed A j.pattern.formed) (models.formed A.signals M j.formed) in
     record {
-      cases = at_success c.run-together.result _ _ _
-          (λ p k. (k.0, record { ran = k.1; promise = joint_promise A M accepting _ _ _ k.1.stands.promise })) c.run-together.ensures.cases;
-      limit = c.run-together.ensures.limit;
+      cases = at_success c.run_together.result _ _ _
+          (λ p k. (k.0, record { ran = k.1; promise = joint_promise A M accepting _ _ _ k.1.stands.promise })) c.run_together.ensures.cases;
+      limit = c.run_together.ensures.limit;
     }

@@ -11,7 +11,7 @@ returns g c =
     let A = single_pattern s in
     let accepting = pattern_acceptance A (formed A s.pattern.formed) in
     record {
-      cases = at_success c.run-alone.result _ _ _
-          (λ p k. (k.0, record { ran = k.1; promise = pattern_promise A accepting _ _ _ k.1.stands.promise })) c.run-alone.ensures.cases;
-      limit = c.run-alone.ensures.limit;
+      cases = at_success c.run_alone.result _ _ _
+          (λ p k. (k.0, record { ran = k.1; promise = pattern_promise A accepting _ _ _ k.1.stands.promise })) c.run_alone.ensures.cases;
+      limit = c.run_alone.ensures.limit;
     }

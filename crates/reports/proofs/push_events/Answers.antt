@@ -5,7 +5,7 @@ use Rattle.reports.proofs.push_events.Goals as goal
 pub loop-event-preserved : goal.loop-event-preserved
 loop-event-preserved c =
     lines_more (codes "event") (string_bytes c.args.text.now) (string_bytes c.loop-event.text) c.args.events.now c.loop-event.event-index
-    c.loop-event.invariant (string_bytes c.push-line.new.text) c.loop-event-test.true c.in-ok-push-line.ensures
+    c.loop-event.invariant (string_bytes c.push_line.new.text) c.loop-event-test.true c.in_ok-push_line.ensures
 
 pub returns : goal.returns
 returns c =

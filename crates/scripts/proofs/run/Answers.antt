@@ -10,7 +10,7 @@ loop-i-init g c =
     let h₀ = g.S.Store.held c.args.store.now in
     let l₀ = g.S.Store.limit c.args.store.now in
     let t₋ = c.args.table.now in
-    let e = c.in-ok-progress.ensures in
+    let e = c.in_ok-progress.ensures in
     let room : length c.open.new.table ≤ g.S.Store.limit c.open.new.store = omega (arith, open_room s (length t₋) h₀ l₀ e.cases.0, e.limit, c.open.auto.table) in
     (λ admits. under_none s (g.K.Kind.laws c.args.kind.now) _ c.open.new.table admits c.args.script.now _ _ t₋ e.cases.1 c.open.auto.table room, refl)
 
@@ -18,7 +18,7 @@ pub act-next-requires : goal.act-next-requires
 act-next-requires g c =
     let s = g.K.Kind.shape c.args.kind.now in
     let t₋ = c.args.table.now in
-    let e = c.in-ok-progress.ensures in
+    let e = c.in_ok-progress.ensures in
     let admits : Admits s (length c.open.new.table) = subst (Admits s) (sym c.open.auto.table) (open_admits s (length t₋) _ _ e.cases.0) in
     under_ready s (g.K.Kind.laws c.args.kind.now) _ c.open.new.table admits c.args.script.now c.loop-i.i _ _ _ _ _ (c.loop-i.invariant.0 admits)
 
@@ -35,7 +35,7 @@ pub returns : goal.returns
 returns g c =
     let s = g.K.Kind.shape c.args.kind.now in
     let t₋ = c.args.table.now in
-    let e = c.in-ok-progress.ensures in
+    let e = c.in_ok-progress.ensures in
     let admits : Admits s (length c.open.new.table) = subst (Admits s) (sym c.open.auto.table) (open_admits s (length t₋) _ _ e.cases.0) in
     let le : length c.loop-i.script ≤ c.loop-i.i = omega (arith, c.loop-i-test.false, c.loop-i.auto.script) in
     record {

@@ -8,7 +8,7 @@ pub returns : goal.returns
 returns g c =
     let s = g.K.Kind.shape c.args.kind.now in
     record {
-      test = subst (λ (n : ℕ). Decides c.are-rows-for.result (RowsFor n c.args.rows)) c.first-count.ensures c.are-rows-for.ensures;
+      test = subst (λ (n : ℕ). Decides c.are_rows_for.result (RowsFor n c.args.rows)) c.first_count.ensures c.are_rows_for.ensures;
       keeps_promise = keeps_promise s (g.K.Kind.laws c.args.kind.now);
       order_free = order_free s;
     }

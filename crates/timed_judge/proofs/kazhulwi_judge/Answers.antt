@@ -13,9 +13,9 @@ none_put (b ∷ bs) after before e z = absurd (omega arith)
 
 pub returns : goal.returns
 returns c =
-    let bytes = c.as-bytes-bytes.result.now in
+    let bytes = c.as_bytes-bytes.result.now in
     let before = c.args.text.now in
-    let e : bytes ≡ judgement_text c.args.file.now = c.as-bytes-bytes.ensures.value ∙ c.in-Ok.ensures.value in
+    let e : bytes ≡ judgement_text c.args.file.now = c.as_bytes-bytes.ensures.value ∙ c.in-Ok.ensures.value in
     record {
       same = none_put bytes c.put.new.target before c.put.ensures;
       len = λ _. ap length e;

@@ -6,16 +6,16 @@ use Rattle.blocks.proofs.OneBlock.{bytes_from_typed}
 use Rattle.blocks.proofs.Files.{blocks_pass, blocks_stop, rewritten}
 use Rattle.blocks.proofs.check.check_file.Goals as goal
 
-pub returns-then-not-may-have : goal.returns-then-not-may-have
+pub returns-then-not-may_have : goal.returns-then-not-may_have
 unfolding file_fault
-returns-then-not-may-have c = record { cases = grind (arith, nat_tests); items = tt }
+returns-then-not-may_have c = record { cases = grind (arith, nat_tests); items = tt }
 
-pub returns-in-err-check-block : goal.returns-in-err-check-block
+pub returns-in_err-check_block : goal.returns-in_err-check_block
 unfolding file_fault
-returns-in-err-check-block c =
-    let p = err_from_is_err_and c.from-residual.result c.from-residual.ensures.1 in
+returns-in_err-check_block c =
+    let p = err_from_is_err_and c.from_residual.result c.from_residual.ensures.1 in
     let file = c.args.file.now in
-    let s = sym c.loop-b.invariant ∙ blocks_stop file c.loop-b.b (length file / 512) c.loop-b-test.true _ c.in-err-check-block.ensures in
+    let s = sym c.loop-b.invariant ∙ blocks_stop file c.loop-b.b (length file / 512) c.loop-b-test.true _ c.in_err-check_block.ensures in
     rw (p.1, p.2) (record { cases = grind (arith, nat_tests); items = tt })
 
 pub loop-b-preserved : goal.loop-b-preserved
@@ -31,4 +31,4 @@ returns c =
     let e : length file / 512 - c.loop-b.b ≡ 0 = omega arith in
     let s = sym c.loop-b.invariant ∙ ap (λ (n : ℕ). blocks_fault n c.loop-b.b (drop (512 * c.loop-b.b) file)) e in
     let none : is_some (file_fault file c.args.limit) ≡ false = grind (arith, nat_tests) in
-    record { cases = none; items = rewritten file c.args.limit (bytes_from_typed file c.ok.file) none }
+    record { cases = none; items = rewritten file c.args.limit (bytes_from_typed file c.type_inv.file) none }

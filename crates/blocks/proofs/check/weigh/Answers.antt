@@ -7,8 +7,8 @@ use Rattle.blocks.proofs.check.weigh.Goals as goal
 pub loop-i-init : goal.loop-i-init
 loop-i-init c = (omega arith, sym (weighed_none 1))
 
-pub overflow-add-sum-in-loop-i : goal.overflow-add-sum-in-loop-i
-overflow-add-sum-in-loop-i c =
+pub overflow_add-sum-in-loop-i : goal.overflow_add-sum-in-loop-i
+overflow_add-sum-in-loop-i c =
     let h = mul-le (c.loop-i.i + 1) (get_or c.args.block.now c.loop-i.i 0) 508 255 (omega arith) (omega arith) in
     omega arith
 

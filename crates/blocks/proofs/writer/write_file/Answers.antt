@@ -26,5 +26,5 @@ returns c =
     record {
       value = grind (arith, nat_tests);
       after = after;
-      items = subst (λ (file : List ℕ). Readable file p) (sym front) (readable p f.0 f.1 (bytes_from_typed p c.type-inv.payload));
+      items = subst (λ (file : List ℕ). Readable file p) (sym front) (readable p f.0 f.1 (bytes_from_typed p c.type_inv.payload));
     }

@@ -32,22 +32,22 @@ returns-then-goal g c =
     let h = g.S.Store.held c.loop-i.store in
     let n = c.loop-i.finds in
     let x = c.in-Some.x in
-    let t' = c.put-first.new.table in
-    let h' = g.S.Store.held c.put-first.new.store in
+    let t' = c.put_first.new.table in
+    let h' = g.S.Store.held c.put_first.new.store in
     let admits = open_admits s (length t₀) h₀ l₀ c.requires in
     let taken = c.loop-i.invariant.0 in
-    let room : n < length t = omega (arith, taken.few, taken.long, admits.firsts_fit, c.loop-i-test.true, c.first-count-i-end.ensures) in
-    let like = met_like s t₀ c.loop-i.i n t h taken x (sym c.in-Some.ensures) (sym c.if-not-covers.ensures) room t' c.put-first.ensures.rows h' c.put-first.ensures.items (sym c.goal.ensures ∙ c.if-goal.true) in
+    let room : n < length t = omega (arith, taken.few, taken.long, admits.firsts_fit, c.loop-i-test.true, c.first_count-i-end.ensures) in
+    let like = met_like s t₀ c.loop-i.i n t h taken x (sym c.in-Some.ensures) (sym c.if-not-covers.ensures) room t' c.put_first.ensures.rows h' c.put_first.ensures.items (sym c.goal.ensures ∙ c.if-goal.true) in
     let like' = subst (λ (m : Counts). Like (stood m (Some Matches) t' h') (opened s)) (sym c.begun.ensures) like in
     record {
       opened = record {
         stands = opened_stands s laws (length t₀) admits _ like';
         rows = ap (λ (m : Counts). m.rows) c.begun.ensures;
         behind = subst (λ (m : Counts). drop m.finds t' ≡ drop m.finds t₀) (sym c.begun.ensures)
-            (met_behind s t₀ c.loop-i.i n t h taken x (sym c.in-Some.ensures) (sym c.if-not-covers.ensures) room t' c.put-first.ensures.rows h' c.put-first.ensures.items);
+            (met_behind s t₀ c.loop-i.i n t h taken x (sym c.in-Some.ensures) (sym c.if-not-covers.ensures) room t' c.put_first.ensures.rows h' c.put_first.ensures.items);
         ready = tt;
       };
-      limit = c.put-first.ensures.limit ∙ c.loop-i.invariant.1;
+      limit = c.put_first.ensures.limit ∙ c.loop-i.invariant.1;
     }
 
 pub loop-i-preserved : goal.loop-i-preserved
@@ -61,14 +61,14 @@ loop-i-preserved g c =
     let n = c.loop-i.finds in
     let admits = open_admits s (length t₀) h₀ l₀ c.requires in
     let taken = c.loop-i.invariant.0 in
-    let room : n < length t = omega (arith, taken.few, taken.long, admits.firsts_fit, c.loop-i-test.true, c.first-count-i-end.ensures) in
+    let room : n < length t = omega (arith, taken.few, taken.long, admits.firsts_fit, c.loop-i-test.true, c.first_count-i-end.ensures) in
     let T : ℕ → _ → _ → Type 0 = λ m u k. Taken s t₀ (c.loop-i.i + 1) m u (g.S.Store.held k) × (g.S.Store.limit k ≡ l₀) in
     elim c.match-first.branch [
       | in-Some+then-not-covers+else-goal w ↦
-          let e = w.put-first.ensures in
+          let e = w.put_first.ensures in
           subst (λ m. T m c.match-first.table c.match-first.store) (sym w.finds-is)
           (subst (λ u. T (n + 1) u c.match-first.store) (sym w.table-is)
-          (subst (λ k. T (n + 1) w.put-first.new.table k) (sym w.store-is) (
+          (subst (λ k. T (n + 1) w.put_first.new.table k) (sym w.store-is) (
             taken_more s t₀ c.loop-i.i n t h taken w.in-Some.x (sym w.in-Some.ensures) (sym w.if-not-covers.ensures) room _ e.rows _ e.items (sym w.if-goal.ensures),
             e.limit ∙ c.loop-i.invariant.1,
           )))
@@ -78,7 +78,7 @@ loop-i-preserved g c =
           (subst (λ k. T n t k) (sym w.store-is)
           (taken_covered s t₀ c.loop-i.i n t h taken w.in-Some.x (sym w.in-Some.ensures) (sym w.if-not-covers.ensures), c.loop-i.invariant.1)))
       | in-default w ↦
-          let y = entry_at s.firsts c.loop-i.i (omega (arith, c.loop-i-test.true, c.first-count-i-end.ensures)) in
+          let y = entry_at s.firsts c.loop-i.i (omega (arith, c.loop-i-test.true, c.first_count-i-end.ensures)) in
           none_some (sym w.in-default.ensures) y.1
     ]
 
@@ -96,8 +96,8 @@ returns g c =
     let p = c.start.result in
     let admits = open_admits s (length t₀) h₀ l₀ c.requires in
     let taken = c.loop-i.invariant.0 in
-    let all : length s.firsts ≤ c.loop-i.i = omega (arith, c.loop-i-test.false, c.first-count-i-end.ensures) in
-    let fits : n ≤ length t = omega (arith, taken.few, taken.long, admits.firsts_fit, c.loop-i.auto.i-end, c.first-count-i-end.ensures) in
+    let all : length s.firsts ≤ c.loop-i.i = omega (arith, c.loop-i-test.false, c.first_count-i-end.ensures) in
+    let fits : n ≤ length t = omega (arith, taken.few, taken.long, admits.firsts_fit, c.loop-i.auto.i-end, c.first_count-i-end.ensures) in
     let roomy : length t ≤ l = omega (arith, taken.long, open_room s (length t₀) h₀ l₀ c.requires, c.loop-i.invariant.1) in
     let e = c.start.ensures.counts in
     let like = stands_as p (begun_with (length t₀) n) t e _ refl h _ (done_like s t₀ c.loop-i.i n t h taken all fits (verdict_of p) c.start.ensures.verdict) in

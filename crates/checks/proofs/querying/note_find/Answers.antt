@@ -3,8 +3,8 @@ use Rattle.search.specs.declared.Find.{Find}
 use Rattle.checks.proofs.Stepping.{length_read, length_small}
 use Rattle.checks.proofs.querying.note_find.Goals as goal
 
-pub overflow-add-length : goal.overflow-add-length
-overflow-add-length g c =
+pub overflow_add-length : goal.overflow_add-length
+overflow_add-length g c =
     let p = c.requires in
     let lt : c.args.counts.row < length c.args.table.now = omega (arith, p.here, p.room) in
     let fits : c.args.counts.finds ≤ length c.args.table.now = omega (arith, p.room) in
@@ -12,8 +12,8 @@ overflow-add-length g c =
     let b = length_small c.args.counts c.args.table.now fits p.here _ _ _ p.ready p.small in
     search rules
 
-pub record-find-requires : goal.record-find-requires
-record-find-requires g c =
+pub record_find-requires : goal.record_find-requires
+record_find-requires g c =
     let p = c.requires in
     record { room = p.room; fresh = p.fresh; space = omega (arith, p.ready.size, p.ready.limit, p.ready.long, p.room) }
 
@@ -26,7 +26,7 @@ returns g c =
     let e = length_read t n.row c.index-table-counts.result lt in
     record {
       value = refl;
-      rows = c.record-find.ensures.rows ∙ ap (λ (m : ℕ). set t n.finds (record { configuration = c.args.x; origin = n.row; via = c.args.k; length = m + 1 })) (sym e);
-      items = c.record-find.ensures.items;
-      limit = c.record-find.ensures.limit;
+      rows = c.record_find.ensures.rows ∙ ap (λ (m : ℕ). set t n.finds (record { configuration = c.args.x; origin = n.row; via = c.args.k; length = m + 1 })) (sym e);
+      items = c.record_find.ensures.items;
+      limit = c.record_find.ensures.limit;
     }

@@ -23,25 +23,25 @@ read_tables p old new old-rows new-rows h e f g =
 not_refused : (o : Option Fault) (f : Fault) → o ≡ None → o ≡ Some f → ⊥
 not_refused o f e g = let z : ◌≡◌ {A = ℕ} 0 1 = cc in omega arith
 
-pub returns-in-err-accepts : goal.returns-in-err-accepts
-returns-in-err-accepts c =
+pub returns-in_err-accepts : goal.returns-in_err-accepts
+returns-in_err-accepts c =
     let p = payload c.args.file.now in
-    let h = c.in-ok-heading.ensures in
+    let h = c.in_ok-heading.ensures in
     let e : read c.parts.result ≡ decoded p =
     c.parts.ensures
-    ∙ read_tables p c.args.roots.now c.read-pattern.new.roots c.args.rows.now c.read-pattern.new.rows
-    c.in-ok-heading.heading h.roots h.rows h.cases.1 in
+    ∙ read_tables p c.args.roots.now c.read_pattern.new.roots c.args.rows.now c.read_pattern.new.rows
+    c.in_ok-heading.heading h.roots h.rows h.cases.1 in
     let s = sound c.args.file.now (length c.args.roots.now) (length c.args.rows.now) h.cases.0 in
-    absurd (not_refused (judged (read c.parts.result)) c.in-err-accepts.field-0.0
-    (ap judged e ∙ s.is_pattern) c.in-err-accepts.ensures)
+    absurd (not_refused (judged (read c.parts.result)) c.in_err-accepts.field-0.0
+    (ap judged e ∙ s.is_pattern) c.in_err-accepts.ensures)
 
 pub returns : goal.returns
 returns c =
     let p = payload c.args.file.now in
-    let h = c.in-ok-heading.ensures in
+    let h = c.in_ok-heading.ensures in
     let e : read c.parts.result ≡ decoded p =
     c.parts.ensures
-    ∙ read_tables p c.args.roots.now c.read-pattern.new.roots c.args.rows.now c.read-pattern.new.rows
-    c.in-ok-heading.heading h.roots h.rows h.cases.1 in
-    let P : Automaton → Type 0 = λ A. Decides c.in-ok-accepts.field-0 (Accepted A c.args.events.now) in
-    record { cases = (h.cases.0, subst P e c.in-ok-accepts.ensures.1); roots = h.roots; rows = h.rows }
+    ∙ read_tables p c.args.roots.now c.read_pattern.new.roots c.args.rows.now c.read_pattern.new.rows
+    c.in_ok-heading.heading h.roots h.rows h.cases.1 in
+    let P : Automaton → Type 0 = λ A. Decides c.in_ok-accepts.field-0 (Accepted A c.args.events.now) in
+    record { cases = (h.cases.0, subst P e c.in_ok-accepts.ensures.1); roots = h.roots; rows = h.rows }

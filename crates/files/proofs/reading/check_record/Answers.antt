@@ -18,27 +18,27 @@ some_heading : (b : Bool) (h g : Heading) → Some g ≡ cond b (Some h) None �
 some_heading true h g e = (refl, cc)
 some_heading false h g e = (cc, cc)
 
-pub returns-in-err-check-file : goal.returns-in-err-check-file
-returns-in-err-check-file c =
-    let p = err_from_is_err_and c.from-residual.result c.from-residual.ensures.1 in
-    rw (p.1, p.2) (file_as c.args.file.now (Some _) _ _ c.in-err-check-file.ensures.cases refl refl)
+pub returns-in_err-check_file : goal.returns-in_err-check_file
+returns-in_err-check_file c =
+    let p = err_from_is_err_and c.from_residual.result c.from_residual.ensures.1 in
+    rw (p.1, p.2) (file_as c.args.file.now (Some _) _ _ c.in_err-check_file.ensures.cases refl refl)
 
 pub returns-in-default : goal.returns-in-default
 returns-in-default c =
     let f = c.args.file.now in
     let p = payload f in
-    file_as f None false _ (none_from _ c.in-ok-check-file.ensures.cases)
+    file_as f None false _ (none_from _ c.in_ok-check_file.ensures.cases)
     (no_heading (headed p) (heading_of p) c.in-default.ensures) refl
 
-pub returns-then-payload-len-heading : goal.returns-then-payload-len-heading
-returns-then-payload-len-heading c =
+pub returns-then-payload_len-heading : goal.returns-then-payload_len-heading
+returns-then-payload_len-heading c =
     let f = c.args.file.now in
     let p = payload f in
     let s = some_heading (headed p) (heading_of p) c.in-Some.heading c.in-Some.ensures in
-    let n = c.payload-len.ensures.len 6656 c.in-ok-check-file.ensures.cases in
+    let n = c.payload_len.ensures.len 6656 c.in_ok-check_file.ensures.cases in
     let l = ap length_of s.1 in
-    let t = c.if-payload-len-heading.true in
-    file_as f None true false (none_from _ c.in-ok-check-file.ensures.cases) s.0
+    let t = c.if-payload_len-heading.true in
+    file_as f None true false (none_from _ c.in_ok-check_file.ensures.cases) s.0
     (ne_eqb (length p) (length_of (heading_of p)) (λ e. t (omega arith)))
 
 pub returns : goal.returns
@@ -46,10 +46,10 @@ returns c =
     let f = c.args.file.now in
     let p = payload f in
     let s = some_heading (headed p) (heading_of p) c.in-Some.heading c.in-Some.ensures in
-    let n = c.payload-len.ensures.len 6656 c.in-ok-check-file.ensures.cases in
+    let n = c.payload_len.ensures.len 6656 c.in_ok-check_file.ensures.cases in
     let l = ap length_of s.1 in
-    let t = c.if-payload-len-heading.false in (
-      file_as f None true true (none_from _ c.in-ok-check-file.ensures.cases) s.0
+    let t = c.if-payload_len-heading.false in (
+      file_as f None true true (none_from _ c.in_ok-check_file.ensures.cases) s.0
           (eq-eqb (length p) (length_of (heading_of p)) (omega arith)),
       s.1,
       omega arith,

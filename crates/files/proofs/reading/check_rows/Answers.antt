@@ -24,9 +24,9 @@ returns-in-default c =
     c.in-default.ensures.cases
     ∙ ap (λ (n : ℕ). Some (Operation n)) l
 
-pub returns-in-err-free : goal.returns-in-err-free
-returns-in-err-free c =
-    let p = err_from_is_err_and c.from-residual.result c.from-residual.ensures.1 in
+pub returns-in_err-free : goal.returns-in_err-free
+returns-in_err-free c =
+    let p = err_from_is_err_and c.from_residual.result c.from_residual.ensures.1 in
     let i = c.loop-i.i in
     let t = c.loop-i.frees in
     let n = c.args.states in
@@ -34,7 +34,7 @@ returns-in-err-free c =
     rw (p.1, p.2) (sym c.loop-i.invariant.2
     ∙ rows_stop n m c.args.count i (rest c.loop-i.reader) c.loop-i-test.true (take i t) _
     (sym (ap (λ (r : Row). row_fault n m (take i t) r) c.in-Some.ensures.cases)
-    ∙ sym (ap (λ (fs : List Bool). row_fault n m fs c.in-Some.row) (part i t)) ∙ c.in-err-free.ensures))
+    ∙ sym (ap (λ (fs : List Bool). row_fault n m fs c.in-Some.row) (part i t)) ∙ c.in_err-free.ensures))
 
 pub loop-i-preserved : goal.loop-i-preserved
 loop-i-preserved c =
@@ -44,7 +44,7 @@ loop-i-preserved c =
     let m = c.args.signals in
     let N = c.args.count in
     let p = rest c.loop-i.reader in
-    let b = c.in-ok-free.free in
+    let b = c.in_ok-free.free in
     let h : i < length t = omega arith in
     let row = c.in-Some.ensures.cases in
     let after = c.in-Some.ensures.after in
@@ -52,13 +52,13 @@ loop-i-preserved c =
     let la = ap length after in
     let e : row_fault n m (take i t) (row_of p) ≡ None =
     sym (ap (λ (r : Row). row_fault n m (take i t) r) row)
-    ∙ sym (ap (λ (fs : List Bool). row_fault n m fs c.in-Some.row) (part i t)) ∙ c.in-ok-free.ensures.0 in
+    ∙ sym (ap (λ (fs : List Bool). row_fault n m fs c.in-Some.row) (part i t)) ∙ c.in_ok-free.ensures.0 in
     let f : b ≡ free (take i t) (row_of p) =
-    c.in-ok-free.ensures.1 ∙ ap (λ (fs : List Bool). free fs c.in-Some.row) (part i t)
+    c.in_ok-free.ensures.1 ∙ ap (λ (fs : List Bool). free fs c.in-Some.row) (part i t)
     ∙ ap (free (take i t)) row in (
       length-set t i b ∙ c.loop-i.invariant.0,
       (let k = c.loop-i.invariant.1 in let g = c.loop-i-test.true in omega arith),
-      ap (λ (fs : List Bool). rows_fault n m fs (each 6 row_of (N - (i + 1)) (rest c.next-row.new.reader))) (take_more_set t i b h)
+      ap (λ (fs : List Bool). rows_fault n m fs (each 6 row_of (N - (i + 1)) (rest c.next_row.new.reader))) (take_more_set t i b h)
           ∙ ap (λ (r : List ℕ). rows_fault n m (take i t ++ b ∷ []) (each 6 row_of (N - (i + 1)) r)) after
           ∙ rows_more n m N i p c.loop-i-test.true (take i t) b e f
           ∙ c.loop-i.invariant.2,

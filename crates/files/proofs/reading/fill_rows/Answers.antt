@@ -8,8 +8,8 @@ use Rattle.files.proofs.Portions.{filled_more}
 use Rattle.files.proofs.reading.fill_rows.Goals as goal
 use Rattle.files.proofs.reading.fill_rows.Goals.{in-Some, in-default}
 
-pub next-row-requires : goal.next-row-requires
-next-row-requires c =
+pub next_row-requires : goal.next_row-requires
+next_row-requires c =
     let l = length-drop (6 * c.loop-i.i) (rest c.args.reader.now) in
     let e = ap length c.loop-i.invariant.0 in
     let g = c.requires.long in
@@ -22,8 +22,8 @@ loop-i-preserved c =
     let p = rest c.args.reader.now in
     let z : 6 * i + 6 ≡ 6 * (i + 1) = omega arith in
     let h : i < length c.args.rows.now = let g = c.requires.room in omega arith in (
-      c.next-row.ensures.after ∙ ap (drop 6) c.loop-i.invariant.0 ∙ drop-drop 6 (6 * i) p ∙ ap (λ (n : ℕ). drop n p) z,
-      elim c.match-next-row.branch [
+      c.next_row.ensures.after ∙ ap (drop 6) c.loop-i.invariant.0 ∙ drop-drop 6 (6 * i) p ∙ ap (λ (n : ℕ). drop n p) z,
+      elim c.match-next_row.branch [
         | in-Some w ↦
             w.rows-is ∙ filled_more 6 row_of i p c.args.rows.now c.loop-i.rows w.in-Some.row h c.loop-i.invariant.1
             (w.in-Some.ensures.cases ∙ ap row_of c.loop-i.invariant.0)

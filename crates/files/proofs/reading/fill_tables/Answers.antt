@@ -8,18 +8,18 @@ use Rattle.files.specs.Layout.{each, root_of, row_of}
 use Rattle.files.proofs.Portions.{rows_next}
 use Rattle.files.proofs.reading.fill_tables.Goals as goal
 
-pub fill-roots-requires : goal.fill-roots-requires
-fill-roots-requires c =
+pub fill_roots-requires : goal.fill_roots-requires
+fill_roots-requires c =
     let l = length-drop 16 (payload c.args.file.now) in
-    let e = ap length c.tables-reader-reader.ensures in
+    let e = ap length c.tables_reader-reader.ensures in
     let g = c.requires.long in
     record { long = omega arith; room = c.requires.room.0 }
 
-pub fill-rows-requires : goal.fill-rows-requires
-fill-rows-requires c =
+pub fill_rows-requires : goal.fill_rows-requires
+fill_rows-requires c =
     let n = c.args.heading.states in
     let p = payload c.args.file.now in
-    let e = rows_next n p _ _ c.tables-reader-reader.ensures c.fill-roots.ensures.after in
+    let e = rows_next n p _ _ c.tables_reader-reader.ensures c.fill_roots.ensures.after in
     let l = length-drop (16 + 2 * n) p in
     let m = ap length e in
     let g = c.requires.long in
@@ -33,10 +33,10 @@ pub returns : goal.returns
 returns c =
     let h = c.args.heading in
     let p = payload c.args.file.now in
-    let e = rows_next h.states p _ _ c.tables-reader-reader.ensures c.fill-roots.ensures.after in
+    let e = rows_next h.states p _ _ c.tables_reader-reader.ensures c.fill_roots.ensures.after in
     record {
-      roots = c.fill-roots.ensures.items
-          ∙ ap (λ (q : List ℕ). each 2 root_of h.states q ++ drop h.states c.args.roots.now) c.tables-reader-reader.ensures;
-      rows = c.fill-rows.ensures
+      roots = c.fill_roots.ensures.items
+          ∙ ap (λ (q : List ℕ). each 2 root_of h.states q ++ drop h.states c.args.roots.now) c.tables_reader-reader.ensures;
+      rows = c.fill_rows.ensures
           ∙ ap (λ (q : List ℕ). each 6 row_of h.rows q ++ drop h.rows c.args.rows.now) e;
     }

@@ -29,10 +29,10 @@ ready file n N h e f =
       all_known = rows_known p s.is_pattern;
     })
 
-pub fill-tables-requires : goal.fill-tables-requires
-fill-tables-requires c =
-    let e = c.in-ok-heading.ensures in
-    let r = ready c.args.file.now (length c.args.roots.now) (length c.args.rows.now) c.in-ok-heading.heading e.0 e.1 in
+pub fill_tables-requires : goal.fill_tables-requires
+fill_tables-requires c =
+    let e = c.in_ok-heading.ensures in
+    let r = ready c.args.file.now (length c.args.roots.now) (length c.args.rows.now) c.in_ok-heading.heading e.0 e.1 in
     record { long = r.long; room = r.room; known = r.all_known }
 
 roots_fronted : (p t : List ℕ) (h : Heading) → h ≡ heading_of p → roots_in h.states p ++ drop h.states t ≡ fronted (decoded p).roots t
@@ -51,12 +51,12 @@ rows_fronted p t h e =
 pub returns : goal.returns
 returns c =
     let p = payload c.args.file.now in
-    let h = c.in-ok-heading.heading in
-    let e = c.in-ok-heading.ensures in
+    let h = c.in_ok-heading.heading in
+    let e = c.in_ok-heading.ensures in
     record {
       cases = e;
-      again = writes_back c.args.file.now (bytes_from_typed c.args.file.now c.type-inv.file)
+      again = writes_back c.args.file.now (bytes_from_typed c.args.file.now c.type_inv.file)
           (sound c.args.file.now (length c.args.roots.now) (length c.args.rows.now) e.0).no_fault;
-      roots = c.fill-tables.ensures.roots ∙ roots_fronted p c.args.roots.now h e.1;
-      rows = c.fill-tables.ensures.rows ∙ rows_fronted p c.args.rows.now h e.1;
+      roots = c.fill_tables.ensures.roots ∙ roots_fronted p c.args.roots.now h e.1;
+      rows = c.fill_tables.ensures.rows ∙ rows_fronted p c.args.rows.now h e.1;
     }

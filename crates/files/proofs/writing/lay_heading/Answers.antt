@@ -52,6 +52,6 @@ returns c =
     (bytes_of 1 1 ++ (bytes_of 1 small ++ (bytes_of 1 parts.signals ++ bytes_of 1 parts.start)))
     (bytes_of 2 (length parts.rows.now)) (bytes_of 8 parts.finals) (bytes_of 2 0)
     (c.put.ensures ∙ ap (λ (xs : List ℕ). laid 0 xs old) first)
-    (c.put-2.ensures ∙ ap (λ (xs : List ℕ). laid 4 xs c.put.new.target) c.to-le-bytes.ensures)
-    (c.put-3.ensures ∙ ap (λ (xs : List ℕ). laid 6 xs c.put-2.new.target) (c.to-le-bytes-2.ensures ∙ eight_bytes parts.finals))
+    (c.put-2.ensures ∙ ap (λ (xs : List ℕ). laid 4 xs c.put.new.target) c.to_le_bytes.ensures)
+    (c.put-3.ensures ∙ ap (λ (xs : List ℕ). laid 6 xs c.put-2.new.target) (c.to_le_bytes-2.ensures ∙ eight_bytes parts.finals))
     c.put-4.ensures refl refl refl

@@ -16,20 +16,20 @@ returns c =
     let A = read c.args.parts in
     let old = c.args.payload.now in
     let room = c.requires.room in
-    let place = c.find-rows-rows-place.result in
+    let place = c.find_rows-rows_place.result in
     let heading = heading_bytes A in
     let roots = flat_map (bytes_of 2) A.roots in
     let rows = flat_map row_bytes_of A.rows in
     let l = length_encoded A in
     let j = length_joined 2 (bytes_of 2) (λ x. refl) A.roots in
     let a = length-append heading roots in
-    let f = c.find-rows-rows-place.ensures in
+    let f = c.find_rows-rows_place.ensures in
     let to : place ≡ 0 + length (heading ++ roots) = omega arith in
     record {
       value = omega arith;
-      after = c.lay-rows.ensures
+      after = c.lay_rows.ensures
           ∙ ap (laid place rows)
-          (c.lay-roots.ensures ∙ ap (laid 16 roots) c.lay-heading.ensures ∙ laid_behind old heading roots 0 16 (omega arith) refl)
+          (c.lay_roots.ensures ∙ ap (laid 16 roots) c.lay_heading.ensures ∙ laid_behind old heading roots 0 16 (omega arith) refl)
           ∙ laid_behind old (heading ++ roots) rows 0 place (omega arith) to
           ∙ ap (λ (xs : List ℕ). laid 0 xs old) (append_assoc heading roots rows);
     }

@@ -15,7 +15,7 @@ loop-q-preserved c =
     let at = c.args.at in
     let q = c.loop-q.q in
     c.put.ensures
-    ∙ ap (λ (bytes : List ℕ). laid (at + 2 * q) bytes c.loop-q.payload) c.to-le-bytes.ensures
+    ∙ ap (λ (bytes : List ℕ). laid (at + 2 * q) bytes c.loop-q.payload) c.to_le_bytes.ensures
     ∙ ap (laid (at + 2 * q) (bytes_of 2 (get_or roots q 0))) c.loop-q.invariant
     ∙ laid_more 2 (bytes_of 2) (λ x. refl) roots q 0 c.args.payload.now at c.loop-q-test.true (omega arith)
 

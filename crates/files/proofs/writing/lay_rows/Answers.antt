@@ -17,7 +17,7 @@ loop-i-preserved c =
     let at = c.args.at in
     let i = c.loop-i.i in
     c.put.ensures
-    ∙ ap (λ (bytes : List ℕ). laid (at + 6 * i) bytes c.loop-i.payload) c.row-bytes.ensures
+    ∙ ap (λ (bytes : List ℕ). laid (at + 6 * i) bytes c.loop-i.payload) c.row_bytes.ensures
     ∙ ap (laid (at + 6 * i) (row_bytes_of (get_or rows i blank))) c.loop-i.invariant
     ∙ laid_more 6 row_bytes_of (λ r. refl) rows i blank c.args.payload.now at c.loop-i-test.true (omega arith)
 

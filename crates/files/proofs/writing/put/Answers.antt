@@ -9,5 +9,5 @@ returns c =
     let at = c.args.at in
     let n = at + length bytes - at in
     let e : at + n ≡ at + length bytes = omega arith in
-    ap (λ (xs : List ℕ). take at old ++ (xs ++ drop n (drop at old))) c.copy-from-slice.ensures.after
+    ap (λ (xs : List ℕ). take at old ++ (xs ++ drop n (drop at old))) c.copy_from_slice.ensures.after
     ∙ ap (λ (xs : List ℕ). take at old ++ (bytes ++ xs)) (drop-drop n at old ∙ ap (λ (k : ℕ). drop k old) e)

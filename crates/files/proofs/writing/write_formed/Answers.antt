@@ -12,17 +12,17 @@ part payload old bytes n e l =
     let k : n - 0 ≡ length bytes = omega arith in
     ap (take (n - 0)) l ∙ take_laid bytes old (n - 0) k
 
-pub slice-bounds-write-file-end : goal.slice-bounds-write-file-end
-slice-bounds-write-file-end c = let r = length_range (read c.args.parts) c.requires in omega arith
+pub slice_bounds-write_file-end : goal.slice_bounds-write_file-end
+slice_bounds-write_file-end c = let r = length_range (read c.args.parts) c.requires in omega arith
 
 pub returns-in-Ok : goal.returns-in-Ok
 returns-in-Ok c =
     let A = read c.args.parts in
     let old = c.args.buffer.now in
-    let new = c.write-file.new.buffer in
-    let payload = c.lay-out-len.new.payload in
-    let is = part payload _ (encoded A) c.lay-out-len.result c.lay-out-len.ensures.value c.lay-out-len.ensures.after in
-    let n = c.in-Ok.file-len in
+    let new = c.write_file.new.buffer in
+    let payload = c.lay_out-len.new.payload in
+    let is = part payload _ (encoded A) c.lay_out-len.result c.lay_out-len.ensures.value c.lay_out-len.ensures.after in
+    let n = c.in-Ok.file_len in
     let e = c.in-Ok.ensures in
     record {
       value = written_value A c.requires _ old new is n e.value;
@@ -34,11 +34,11 @@ pub returns-in-Err : goal.returns-in-Err
 returns-in-Err c =
     let A = read c.args.parts in
     let old = c.args.buffer.now in
-    let payload = c.lay-out-len.new.payload in
-    let is = part payload _ (encoded A) c.lay-out-len.result c.lay-out-len.ensures.value c.lay-out-len.ensures.after in
+    let payload = c.lay_out-len.new.payload in
+    let is = part payload _ (encoded A) c.lay_out-len.result c.lay_out-len.ensures.value c.lay_out-len.ensures.after in
     let e = c.in-Err.ensures in
     record {
-      value = refused_value A c.requires _ old c.write-file.new.buffer is c.in-Err.field-0 e.value;
+      value = refused_value A c.requires _ old c.write_file.new.buffer is c.in-Err.field-0 e.value;
       after = e.after;
       again = tt;
     }

@@ -7,13 +7,13 @@ use Rattle.finds.proofs.Intacts.{length_read}
 use Rattle.finds.proofs.Reading.{row_read}
 use Rattle.finds.proofs.sequences.last_length.Goals as goal
 
-pub returns-then-is-empty : goal.returns-then-is-empty
-returns-then-is-empty g c =
+pub returns-then-is_empty : goal.returns-then-is_empty
+returns-then-is_empty g c =
     let fs = c.args.finds.now in
-    sym (ap (λ xs. length_at xs (last_of xs)) (nil_from_length fs (eqb-true (length fs) 0 (sym c.if-is-empty.ensures))))
+    sym (ap (λ xs. length_at xs (last_of xs)) (nil_from_length fs (eqb-true (length fs) 0 (sym c.if-is_empty.ensures))))
 
 pub returns : goal.returns
 returns g c =
     let fs = c.args.finds.now in
-    let l : length fs - 1 < length fs = omega (arith, eqb-false (length fs) 0 (sym c.if-is-empty.ensures)) in
+    let l : length fs - 1 < length fs = omega (arith, eqb-false (length fs) 0 (sym c.if-is_empty.ensures)) in
     sym (length_read fs (length fs - 1) _ (row_read fs (length fs - 1) c.index-finds-finds.result l))

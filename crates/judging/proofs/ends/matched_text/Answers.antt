@@ -18,5 +18,5 @@ returns c =
     let es = c.sequence.new.list in
     let q = c.args.tally.queries in
     let f = c.args.tally.finds in
-    let r = c.matches-report.result in
-    subst (λ (xs : List ℕ). IfOk r (λ s. string_bytes s ≡ report_text q f (matches xs))) (ap (λ (m : ℕ). take m es) (sub-zero n) ∙ front_written _ _ _ es n w) c.matches-report.ensures
+    let r = c.matches_report.result in
+    subst (λ (xs : List ℕ). IfOk r (λ s. string_bytes s ≡ report_text q f (matches xs))) (ap (λ (m : ℕ). take m es) (sub-zero n) ∙ front_written _ _ _ es n w) c.matches_report.ensures

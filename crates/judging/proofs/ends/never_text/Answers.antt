@@ -19,5 +19,5 @@ returns c =
     let es = c.certificate.new.list in
     let q = c.args.tally.queries in
     let f = c.args.tally.finds in
-    let r = c.never-report.result in
-    subst (λ (xs : List ℕ). IfOk r (λ s. string_bytes s ≡ report_text q f (never xs))) (ap (λ (m : ℕ). take m es) (sub-zero n) ∙ front_written _ _ _ es n w) c.never-report.ensures
+    let r = c.never_report.result in
+    subst (λ (xs : List ℕ). IfOk r (λ s. string_bytes s ≡ report_text q f (never xs))) (ap (λ (m : ℕ). take m es) (sub-zero n) ∙ front_written _ _ _ es n w) c.never_report.ensures

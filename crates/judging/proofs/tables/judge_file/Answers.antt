@@ -15,7 +15,7 @@ unreachable-requires c =
     let p = payload c.args.file.now in
     let h = c.in-Ok.ensures in
     let e : read c.parts.result ≡ decoded p = c.parts.ensures
-    ∙ read_tables p c.args.roots.now c.read-pattern.new.roots c.args.rows.now c.read-pattern.new.rows c.in-Ok.heading h.roots h.rows h.cases.1 in
+    ∙ read_tables p c.args.roots.now c.read_pattern.new.roots c.args.rows.now c.read_pattern.new.rows c.in-Ok.heading h.roots h.rows h.cases.1 in
     let s = sound c.args.file.now (length c.args.roots.now) (length c.args.rows.now) h.cases.0 in
     none_some (ap judged e ∙ s.is_pattern) c.in-Err-checked.ensures
 
@@ -25,9 +25,9 @@ returns-in-Ok-checked c =
     let p = payload file in
     let h = c.in-Ok.ensures in
     let e : read c.parts.result ≡ decoded p = c.parts.ensures
-    ∙ read_tables p c.args.roots.now c.read-pattern.new.roots c.args.rows.now c.read-pattern.new.rows c.in-Ok.heading h.roots h.rows h.cases.1 in
+    ∙ read_tables p c.args.roots.now c.read_pattern.new.roots c.args.rows.now c.read_pattern.new.rows c.in-Ok.heading h.roots h.rows h.cases.1 in
     let k = c.in-Ok-checked.ensures in
     let q : single_pattern c.new.result ≡ decoded p = c.new.ensures.value ∙ c.seal.ensures ∙ cond-false _ _ _ (ap is_some k.1) ∙ k.0 ∙ e in
-    subst (λ (text : List ℕ). IfOk c.judge-pattern.result (λ s. string_bytes s ≡ text))
+    subst (λ (text : List ℕ). IfOk c.judge_pattern.result (λ s. string_bytes s ≡ text))
     (judged_text file (length c.args.roots.now) (length c.args.rows.now) c.requires.roots c.requires.rows h.cases.0 (single_pattern c.new.result) q)
-    c.judge-pattern.ensures
+    c.judge_pattern.ensures

@@ -8,4 +8,4 @@ pub returns : goal.returns
 unfolding ended
 returns c =
     let A = single_pattern c.args.pattern.now in
-    subst (λ (text : List ℕ). IfOk c.end-text.result (λ s. string_bytes s ≡ text)) (text_like A _ (ended A) c.in-Ok.ensures.cases.1.ran.stands.like) c.end-text.ensures
+    subst (λ (text : List ℕ). IfOk c.end_text.result (λ s. string_bytes s ≡ text)) (text_like A _ (ended A) c.in-Ok.ensures.cases.1.ran.stands.like) c.end_text.ensures

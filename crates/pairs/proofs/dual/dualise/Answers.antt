@@ -19,8 +19,8 @@ part i t = let z : i - 0 ≡ i = omega arith in ap (λ (k : ℕ). take k t) z
 part_length : (i : ℕ) (t : List Bool) → i ≤ length t → length (take (i - 0) t) ≡ i
 part_length i t h = ap length (part i t) ∙ length-take-le i t h
 
-pub is-free-free-requires : goal.is-free-free-requires
-is-free-free-requires c =
+pub is_free-free-requires : goal.is_free-free-requires
+is_free-free-requires c =
     let A = read c.args.earlier in
     let i = c.loop-i.i in
     let h : i < length A.rows = c.loop-i-test.true in
@@ -29,14 +29,14 @@ is-free-free-requires c =
     ap (λ (k : ℕ). ordered k (row A i)) (part_length i c.loop-i.frees (omega arith))
     ∙ operands_before A i (row A i) (c.requires.formed.proper i h)
 
-pub copy-of-requires : goal.copy-of-requires
-copy-of-requires c = record {
+pub copy_of-requires : goal.copy_of-requires
+copy_of-requires c = record {
   small = operands_small (read c.args.earlier) c.requires.formed c.loop-i.i c.loop-i-test.true;
   few = c.requires.few.0;
 }
 
-pub dual-of-requires : goal.dual-of-requires
-dual-of-requires c =
+pub dual_of-requires : goal.dual_of-requires
+dual_of-requires c =
     let s = operands_small (read c.args.earlier) c.requires.formed c.loop-i.i c.loop-i-test.true in
     let n = c.requires.formed.few_rows in
     let h = c.loop-i-test.true in
@@ -56,13 +56,13 @@ loop-i-preserved c =
     let m : length t ≡ 1024 = c.loop-i.invariant.0 in
     let l : i < length t = omega arith in
     let r = get_or rs i blank in
-    let f = c.is-free-free.result in
-    let ef : f ≡ free (take i t) r = c.is-free-free.ensures ∙ ap (λ (vs : List Bool). free vs r) (part i t) in
+    let f = c.is_free-free.result in
+    let ef : f ≡ free (take i t) r = c.is_free-free.ensures ∙ ap (λ (vs : List Bool). free vs r) (part i t) in
     let xs = dual_rows b n [] (take i rs) in
     let x = row_copy b (free (take i t) r) r in
     let y = row_dual b n i (free (take i t) r) r in
-    let ex : c.copy-of.result ≡ x = c.copy-of.ensures ∙ ap (λ (g : Bool). row_copy b g r) ef in
-    let ey : c.dual-of.result ≡ y = c.dual-of.ensures ∙ ap (λ (g : Bool). row_dual b n i g r) ef in
+    let ex : c.copy_of.result ≡ x = c.copy_of.ensures ∙ ap (λ (g : Bool). row_copy b g r) ef in
+    let ey : c.dual_of.result ≡ y = c.dual_of.ensures ∙ ap (λ (g : Bool). row_dual b n i g r) ef in
     let lx : length xs ≡ 2 * i = length_dual_rows b n [] (take i rs) ∙ ap (λ (j : ℕ). 2 * j) (length-take-le i rs (omega arith)) in
     let ly : length (xs ++ x ∷ []) ≡ 2 * i + 1 = length_push xs x ∙ ap (λ (j : ℕ). j + 1) lx in (
       length-set t i f ∙ m,
@@ -70,7 +70,7 @@ loop-i-preserved c =
           ∙ ap (λ (g : Bool). take i t ++ g ∷ []) ef
           ∙ ap (λ (vs : List Bool). free_step vs r) c.loop-i.invariant.1
           ∙ sym (fold_more free_step [] rs i blank h),
-      ap (λ (v : Row). set (set c.loop-i.rows (2 * i) v) (2 * i + 1) c.dual-of.result) ex
+      ap (λ (v : Row). set (set c.loop-i.rows (2 * i) v) (2 * i + 1) c.dual_of.result) ex
           ∙ ap (λ (v : Row). set (set c.loop-i.rows (2 * i) x) (2 * i + 1) v) ey
           ∙ ap (λ (t' : List Row). set (set t' (2 * i) x) (2 * i + 1) y) c.loop-i.invariant.2
           ∙ ap (λ (t' : List Row). set t' (2 * i + 1) y) (front_push xs old x (2 * i) lx (omega arith))

@@ -11,8 +11,8 @@ pub loop-q-init : goal.loop-q-init
 loop-q-init c =
     let xs = (read c.args.later).roots in
     let old = c.args.roots.now in
-    let t = c.copy-front.new.table in
-    let e : t ≡ fronted xs old = c.copy-front.ensures in
+    let t = c.copy_front.new.table in
+    let e : t ≡ fronted xs old = c.copy_front.ensures in
     sym (ap (fronted (xs ++ [])) e ∙ front_front xs [] old ∙ ap (λ (zs : List ℕ). fronted zs old) (append-nil xs) ∙ sym e)
 
 -- how long the front is with the duals of the first q roots
@@ -26,15 +26,15 @@ loop-q-preserved c =
     let ys = (read c.args.earlier).roots in
     let b = length (read c.args.later).rows in
     let q = c.loop-q.q in
-    let t = c.copy-front.new.table in
+    let t = c.copy_front.new.table in
     let old = c.args.roots.now in
     let room = c.requires.room in
-    let lt : length t ≡ length old = ap length c.copy-front.ensures ∙ length_fronted xs old (omega arith) in
+    let lt : length t ≡ length old = ap length c.copy_front.ensures ∙ length_fronted xs old (omega arith) in
     let h : q < length ys = c.loop-q-test.true in
     let front = xs ++ map (dual_at b) (take q ys) in
     let v = dual_at b (get_or ys q 0) in
-    ap (λ (r : List ℕ). set r (length xs + q) c.dual-place.result) c.loop-q.invariant
-    ∙ ap (set (fronted front t) (length xs + q)) c.dual-place.ensures
+    ap (λ (r : List ℕ). set r (length xs + q) c.dual_place.result) c.loop-q.invariant
+    ∙ ap (set (fronted front t) (length xs + q)) c.dual_place.ensures
     ∙ front_push front t v (length xs + q) (front_length xs ys (dual_at b) q (omega arith)) (omega arith)
     ∙ ap (λ (zs : List ℕ). fronted zs t)
     (append_assoc xs (map (dual_at b) (take q ys)) (v ∷ []) ∙ ap (λ (zs : List ℕ). xs ++ zs) (sym (map_more (dual_at b) ys q 0 h)))
@@ -48,10 +48,10 @@ returns c =
     let ys = A.roots in
     let b = length B.rows in
     let q = c.loop-q.q in
-    let t = c.copy-front.new.table in
+    let t = c.copy_front.new.table in
     let old = c.args.roots.now in
     let room = c.requires.room in
-    let lt : length t ≡ length old = ap length c.copy-front.ensures ∙ length_fronted xs old (omega arith) in
+    let lt : length t ≡ length old = ap length c.copy_front.ensures ∙ length_fronted xs old (omega arith) in
     let e : q ≡ length ys = omega arith in
     let duals = map (dual_at b) ys in
     let all : take q ys ≡ ys = take_all q ys c.loop-q-test.false in
@@ -60,5 +60,5 @@ returns c =
     ∙ ap (λ (zs : List ℕ). set (fronted (xs ++ map (dual_at b) zs) t) (state_count_of B A) (row_count_of B A)) all
     ∙ front_push (xs ++ duals) t (row_count_of B A) (state_count_of B A) n (omega arith)
     ∙ ap (λ (zs : List ℕ). fronted zs t) (append_assoc xs duals (row_count_of B A ∷ []))
-    ∙ ap (fronted (xs ++ (duals ++ row_count_of B A ∷ []))) c.copy-front.ensures
+    ∙ ap (fronted (xs ++ (duals ++ row_count_of B A ∷ []))) c.copy_front.ensures
     ∙ front_front xs (duals ++ row_count_of B A ∷ []) old

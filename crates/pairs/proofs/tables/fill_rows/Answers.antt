@@ -19,16 +19,16 @@ returns c =
     let k = row_count_of B A in
     let xs = B.rows in
     let ys = dual_rows b (states B) [] A.rows in
-    let t = c.copy-front.new.table in
+    let t = c.copy_front.new.table in
     let part = c.dualise.new.rows in
     let room = c.requires.room in
-    let e : t ≡ fronted xs old = c.copy-front.ensures in
+    let e : t ≡ fronted xs old = c.copy_front.ensures in
     let front : take b t ≡ xs = ap (take b) e ∙ take_at xs (drop b old) b refl in
     let filled : part ≡ fronted ys (drop b (fronted xs old)) =
     c.dualise.ensures ∙ ap (fronted ys) (take_rest t b ∙ ap (drop b) e) in
     let n : length (xs ++ ys) ≡ k = length-append xs ys ∙ ap (λ (j : ℕ). b + j) (length_dual_rows b (states B) [] A.rows) in
-    ap (λ (t' : List Row). set t' k c.last-row.result)
+    ap (λ (t' : List Row). set t' k c.last_row.result)
     (lent_part b t part ∙ ap (λ (zs : List Row). zs ++ part) front ∙ part_fronted xs ys old part b refl (omega arith) filled)
-    ∙ ap (set (fronted (xs ++ ys) old) k) c.last-row.ensures
+    ∙ ap (set (fronted (xs ++ ys) old) k) c.last_row.ensures
     ∙ front_push (xs ++ ys) old (last_row_of B A) k n (omega arith)
     ∙ ap (λ (zs : List Row). fronted zs old) (append_assoc xs ys (last_row_of B A ∷ []))

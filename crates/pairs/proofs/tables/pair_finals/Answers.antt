@@ -4,7 +4,7 @@ use Rattle.sets.proofs.Members.{set_of_more, set_of_skip}
 use Rattle.patterns.specs.Automaton.{read}
 use Rattle.duals.specs.Without.{without, final_in, state_count_of}
 use Rattle.pairs.proofs.tables.pair_finals.Goals as goal
-use Rattle.pairs.proofs.tables.pair_finals.Goals.{then-is-final, else-is-final}
+use Rattle.pairs.proofs.tables.pair_finals.Goals.{then-is_final, else-is_final}
 
 pub loop-q-init : goal.loop-q-init
 unfolding set_of
@@ -17,13 +17,13 @@ loop-q-preserved c =
     let q = c.loop-q.q in
     let f : ℕ → Bool = final_in B A in
     let l : q < state_count_of B A + 1 = c.loop-q-test.true in
-    let g : c.if-is-final.finals ≡ set_of f (suc q) =
-    elim c.if-is-final.branch [
-      | then-is-final w ↦
+    let g : c.if-is_final.finals ≡ set_of f (suc q) =
+    elim c.if-is_final.branch [
+      | then-is_final w ↦
           w.finals-is ∙ w.add-finals.ensures
           ∙ ap (λ (s : ℕ). union s (one q)) c.loop-q.invariant
-          ∙ set_of_more f q (sym c.is-final.ensures ∙ w.if-is-final.true) (omega (arith, c.requires))
-      | else-is-final w ↦ w.finals-is ∙ c.loop-q.invariant ∙ set_of_skip f q (sym c.is-final.ensures ∙ w.if-is-final.false)
+          ∙ set_of_more f q (sym c.is_final.ensures ∙ w.if-is_final.true) (omega (arith, c.requires))
+      | else-is_final w ↦ w.finals-is ∙ c.loop-q.invariant ∙ set_of_skip f q (sym c.is_final.ensures ∙ w.if-is_final.false)
     ] in
     g ∙ ap (set_of f) (sym (add-one q))
 

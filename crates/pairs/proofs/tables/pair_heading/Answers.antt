@@ -16,5 +16,5 @@ returns c =
       rows = row_count_of B A + 1;
       finals = d;
     } in
-    ap (λ (m : ℕ). made m c.pair-finals.result) c.larger-count.ensures
-    ∙ ap (made (without B A).signals) c.pair-finals.ensures
+    ap (λ (m : ℕ). made m c.pair_finals.result) c.larger_count.ensures
+    ∙ ap (made (without B A).signals) c.pair_finals.ensures

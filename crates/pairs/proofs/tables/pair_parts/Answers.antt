@@ -10,7 +10,7 @@ returns c =
     let A = read c.args.earlier in
     let n = length c.args.roots.now in
     let N = length c.args.rows.now in
-    let none = c.in-ok-check-sizes.ensures in
-    paired_ok B A (pair_fault B A n N) c.pair-heading.result c.args.roots.now c.fill-roots.new.roots
-    c.args.rows.now c.fill-rows.new.rows c.requires.later c.requires.earlier none (sized_from B A n N none).fits
-    c.pair-heading.ensures c.fill-roots.ensures c.fill-rows.ensures
+    let none = c.in_ok-check_sizes.ensures in
+    paired_ok B A (pair_fault B A n N) c.pair_heading.result c.args.roots.now c.fill_roots.new.roots
+    c.args.rows.now c.fill_rows.new.rows c.requires.later c.requires.earlier none (sized_from B A n N none).fits
+    c.pair_heading.ensures c.fill_roots.ensures c.fill_rows.ensures

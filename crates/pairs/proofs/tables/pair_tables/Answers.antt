@@ -7,8 +7,8 @@ use Rattle.pairs.specs.Paired.{Paired}
 use Rattle.pairs.specs.Questions.{pair_fault}
 use Rattle.pairs.proofs.tables.pair_tables.Goals as goal
 
-pub pair-parts-requires : goal.pair-parts-requires
-pair-parts-requires c =
+pub pair_parts-requires : goal.pair_parts-requires
+pair_parts-requires c =
     let P : Automaton → Type 0 = λ A. Formed A in
     let B = automaton c.args.later.now in
     let A = automaton c.args.earlier.now in
@@ -21,8 +21,8 @@ pub returns : goal.returns
 returns c =
     let n = length c.args.roots.now in
     let N = length c.args.rows.now in
-    let P : Automaton → Automaton → Type 0 = λ B A. Paired B A (pair_fault B A n N) c.pair-parts.result
-    c.args.roots.now c.pair-parts.new.roots c.args.rows.now c.pair-parts.new.rows in
+    let P : Automaton → Automaton → Type 0 = λ B A. Paired B A (pair_fault B A n N) c.pair_parts.result
+    c.args.roots.now c.pair_parts.new.roots c.args.rows.now c.pair_parts.new.rows in
     let Q : Automaton → Type 0 = λ B. P B (read c.parts-2.result) in
     let R : Automaton → Type 0 = λ A. P (automaton c.args.later.now) A in
-    subst R c.parts-2.ensures (subst Q c.parts.ensures c.pair-parts.ensures)
+    subst R c.parts-2.ensures (subst Q c.parts.ensures c.pair_parts.ensures)

@@ -22,4 +22,4 @@ worked =
     }
 
 pub returns : goal.returns
-returns c = record { value = c.latch-tables.ensures; worked = worked }
+returns c = record { value = c.latch_tables.ensures; worked = worked }

@@ -11,22 +11,22 @@ use Rattle.patterns.proofs.questions.check_rows.Goals as goal
 part : (i : ℕ) (t : List Bool) → take (i - 0) t ≡ take i t
 part i t = let z : i - 0 ≡ i = omega arith in ap (λ (k : ℕ). take k t) z
 
-pub returns-in-err-free : goal.returns-in-err-free
-returns-in-err-free c =
-    let p = err_from_is_err_and c.from-residual.result c.from-residual.ensures.1 in
+pub returns-in_err-free : goal.returns-in_err-free
+returns-in_err-free c =
+    let p = err_from_is_err_and c.from_residual.result c.from_residual.ensures.1 in
     let i = c.loop-i.i in
     let t = c.loop-i.frees in
     rw (p.1, p.2) (sym c.loop-i.invariant.1
     ∙ rows_stop c.args.states c.args.signals c.args.rows.now i blank c.loop-i-test.true (take i t) _
-    (rw (part i t) at c.in-err-free.ensures))
+    (rw (part i t) at c.in_err-free.ensures))
 
 pub loop-i-preserved : goal.loop-i-preserved
 loop-i-preserved c =
     let i = c.loop-i.i in
     let t = c.loop-i.frees in
-    let b = c.in-ok-free.free in
+    let b = c.in_ok-free.free in
     let h : i < length t = omega arith in
-    let e = rw (part i t) at c.in-ok-free.ensures in (
+    let e = rw (part i t) at c.in_ok-free.ensures in (
       length-set t i b ∙ c.loop-i.invariant.0,
       rw (take_more_set t i b h)
           (rows_more c.args.states c.args.signals c.args.rows.now i blank c.loop-i-test.true (take i t) b e.0 e.1

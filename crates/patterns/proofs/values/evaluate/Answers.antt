@@ -13,13 +13,13 @@ loop-i-preserved c =
     let a = c.args.event in
     let d = c.args.states in
     let rows = c.args.rows.now in
-    let v = c.row-value-value.result in
+    let v = c.row_value-value.result in
     let h : i < length t = omega arith in
     let z : i - 0 ≡ i = omega arith in
     let e : take (i - 0) t ≡ values (take i rows) a d = ap (λ (k : ℕ). take k t) z ∙ c.loop-i.invariant.1 in
     let r = get_or rows i blank in
     let f : v ≡ row_value_of a d (values (take i rows) a d) r =
-    c.row-value-value.ensures ∙ ap (λ (vs : List Bool). row_value_of a d vs r) e in (
+    c.row_value-value.ensures ∙ ap (λ (vs : List Bool). row_value_of a d vs r) e in (
       length-set t i v ∙ c.loop-i.invariant.0,
       take_more_set t i v h
           ∙ ap (λ (vs : List Bool). vs ++ v ∷ []) c.loop-i.invariant.1

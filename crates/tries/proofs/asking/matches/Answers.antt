@@ -8,7 +8,7 @@ use Rattle.tries.specs.Rows.{way}
 use Rattle.tries.proofs.Walks.{blank, read_at, skip_fits, walk_start, walk_skip, walk_next, walk_here, walk_end, walk_deep, contained_way}
 use Rattle.tries.proofs.Trails.{Trail, trail_start, trail_left, trail_more}
 use Rattle.tries.proofs.asking.matches.Goals as goal
-use Rattle.tries.proofs.asking.matches.Goals.{else-is-empty-via-then-is-empty+else-row, else-is-empty-via-else-is-empty}
+use Rattle.tries.proofs.asking.matches.Goals.{else-is_empty-via-then-is_empty+else-row, else-is_empty-via-else-is_empty}
 
 abbrev same : List ℕ → List ℕ → Bool
 same v w = contained w v && contained v w
@@ -21,8 +21,8 @@ loop-i-init c =
     let v = numbers c.args.key in
     ([], walk_start (same v) v c.args.rows.now c.requires.linked c.requires.shaped, trail_start c.args.key _ (length-replicate 65 c.args.key))
 
-pub overflow-add-i : goal.overflow-add-i
-overflow-add-i c =
+pub overflow_add-i : goal.overflow_add-i
+overflow_add-i c =
     let rows = c.args.rows.now in
     let i = c.loop-i.i in
     let f = skip_fits rows i (get_or rows i blank) c.loop-i-test.true (read_at rows i c.loop-i-test.true) c.loop-i.invariant.1.linked in
@@ -67,7 +67,7 @@ returns-then-row c =
     sym (walk_here (same v) v (only v) rows i w.0 w.1 row l e c.if-row.true
     (and_from (contained (way w.0 row) v) (contained v (way w.0 row))
     (contained_way w.0 v row w.1.own (sym c.has.ensures ∙ c.if-not-has.false))
-    (sym (rest_none v (way w.0 row)) ∙ sym (ap none left) ∙ sym c.if-is-empty.ensures)))
+    (sym (rest_none v (way w.0 row)) ∙ sym (ap none left) ∙ sym c.if-is_empty.ensures)))
 
 pub loop-i-preserved : goal.loop-i-preserved
 loop-i-preserved c =
@@ -82,9 +82,9 @@ loop-i-preserved c =
     let to = way w.0 row in
     let deep = walk_deep (same v) v (only v) rows i w.0 w.1 row l e in
     let left = trail_left key c.loop-i.left w.0 w.2 row c.follow.result deep.0 deep.1 c.follow.ensures.value in
-    let other : row.ends ≡ true → same v to ≡ false = λ t. elim c.else-is-empty.branch [
-      | else-is-empty-via-then-is-empty+else-row x ↦ absurd (both_ways row.ends x.if-row.false t)
-      | else-is-empty-via-else-is-empty x ↦ and_right (contained to v) (contained v to) (sym (rest_none v to) ∙ sym (ap none left) ∙ sym c.is-empty.ensures ∙ x.if-is-empty.false)
+    let other : row.ends ≡ true → same v to ≡ false = λ t. elim c.else-is_empty.branch [
+      | else-is_empty-via-then-is_empty+else-row x ↦ absurd (both_ways row.ends x.if-row.false t)
+      | else-is_empty-via-else-is_empty x ↦ and_right (contained to v) (contained v to) (sym (rest_none v to) ∙ sym (ap none left) ∙ sym c.is_empty.ensures ∙ x.if-is_empty.false)
     ] in (
       to,
       walk_next (same v) v (only v) rows i w.0 w.1 row l e (sym c.has.ensures ∙ c.if-not-has.false) other,

@@ -4,8 +4,8 @@ use Rattle.tries.specs.Rows.{run, linked}
 use Rattle.tries.proofs.Walks.{blank, read_at, skip_fits, drop_linked, run_jump, run_here}
 use Rattle.tries.proofs.asking.measure.Goals as goal
 
-pub overflow-add-i : goal.overflow-add-i
-overflow-add-i c =
+pub overflow_add-i : goal.overflow_add-i
+overflow_add-i c =
     let rows = c.args.rows.now in
     let i = c.loop-i.i in
     let f = skip_fits rows i (get_or rows i blank) c.loop-i-test.true (read_at rows i c.loop-i-test.true) c.loop-i.invariant.2 in

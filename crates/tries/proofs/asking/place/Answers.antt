@@ -14,8 +14,8 @@ loop-i-preserved-then-shares c =
     let h = c.shares.ensures.0 c.if-shares.true in
     search_next c.args.word.now c.args.rows.now c.loop-i.i c.loop-i.depth c.loop-i.invariant c.loop-i-test.true h.0 h.1 h.2
 
-pub overflow-add-i-else-shares : goal.overflow-add-i-else-shares
-overflow-add-i-else-shares c =
+pub overflow_add-i-else-shares : goal.overflow_add-i-else-shares
+overflow_add-i-else-shares c =
     let rows = c.args.rows.now in
     let i = c.loop-i.i in
     let f = skip_fits rows i (get_or rows i blank) c.loop-i-test.true (read_at rows i c.loop-i-test.true) c.loop-i.invariant.linked in

@@ -9,8 +9,8 @@ use Rattle.tries.proofs.asking.reaches.Goals as goal
 pub loop-i-init : goal.loop-i-init
 loop-i-init c = ([], walk_start (λ w. contained w (numbers c.args.key.now)) (numbers c.args.key.now) c.args.rows.now c.requires.linked c.requires.shaped)
 
-pub overflow-add-i : goal.overflow-add-i
-overflow-add-i c =
+pub overflow_add-i : goal.overflow_add-i
+overflow_add-i c =
     let rows = c.args.rows.now in
     let i = c.loop-i.i in
     let f = skip_fits rows i (get_or rows i blank) c.loop-i-test.true (read_at rows i c.loop-i-test.true) c.loop-i.invariant.1.linked in

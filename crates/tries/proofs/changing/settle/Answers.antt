@@ -7,8 +7,8 @@ use Rattle.tries.proofs.Settling.{written}
 use Rattle.tries.proofs.changing.settle.Goals as goal
 use Rattle.tries.proofs.changing.settle.Goals.{else-not-row-via-then-not-row+else-below-eq0, else-not-row-via-else-not-row}
 
-pub overflow-add-rows : goal.overflow-add-rows
-overflow-add-rows c =
+pub overflow_add-rows : goal.overflow_add-rows
+overflow_add-rows c =
     let h = run_le c.args.row.depth (drop c.args.start c.args.rows.now) in
     let k = length-drop c.args.start c.args.rows.now in
     let e = c.measure-below.ensures in

@@ -9,26 +9,26 @@ use Rattle.tries.proofs.Releasing.{length_released, links_released, shaped_relea
 use Rattle.tries.proofs.Growing.{few_paths, put_word, Put}
 use Rattle.tries.proofs.exchanging.exchange.Goals as goal
 
-pub put-in-used-requires : goal.put-in-used-requires
-put-in-used-requires c =
+pub put_in-used-requires : goal.put_in-used-requires
+put_in-used-requires c =
     let rows = c.args.rows.now in
     let used = c.args.used in
     let v = numbers c.args.key in
     let rs = take used rows in
-    let go = c.let-go-left.ensures in
+    let go = c.let_go-left.ensures in
     let w = c.write-count.ensures in
     let n : c.write-count.result - 0 ≡ c.write-count.result = omega arith in
     let word = ap (λ j. take j c.write-count.new.out) n ∙ w.items in
     record {
-      room = omega (arith, c.requires.room, c.let-go-left.auto.rows);
+      room = omega (arith, c.requires.room, c.let_go-left.auto.rows);
       linked = ap linked go.rows ∙ links_released v [] rs c.requires.linked;
       shaped = ap (shaped 0) go.rows ∙ shaped_released v 0 [] rs ∙ c.requires.shaped;
       some = omega (arith, ap length word, c.requires.some);
       short = omega (arith, ap length word, w.len, w.short);
     }
 
-pub overflow-add-result : goal.overflow-add-result
-overflow-add-result c =
+pub overflow_add-result : goal.overflow_add-result
+overflow_add-result c =
     let rows = c.args.rows.now in
     let used = c.args.used in
     let v = numbers c.args.key in
@@ -37,7 +37,7 @@ overflow-add-result c =
     let h = few_paths [] (released v [] rs) in
     let k = length_released v [] rs in
     let l = length-take-le used rows (omega arith) in
-    let e = c.let-go-left.ensures.count in
+    let e = c.let_go-left.ensures.count in
     search rules
 
 pub returns : goal.returns
@@ -46,17 +46,17 @@ returns c =
     let used = c.args.used in
     let v = numbers c.args.key in
     let rs = take used rows in
-    let go = c.let-go-left.ensures in
+    let go = c.let_go-left.ensures in
     let w = c.write-count.ensures in
     let n : c.write-count.result - 0 ≡ c.write-count.result = omega arith in
     let word = ap (λ j. take j c.write-count.new.out) n ∙ w.items in
-    let ss = take c.put-in-used.result c.put-in-used.new.rows in
+    let ss = take c.put_in-used.result c.put_in-used.new.rows in
     let old = released v [] rs in
-    let p : PutIn v old ss = subst (λ z. PutIn v z ss) go.rows (subst (λ z. PutIn z (take used c.let-go-left.new.rows) ss) word c.put-in-used.ensures.items) in
+    let p : PutIn v old ss = subst (λ z. PutIn v z ss) go.rows (subst (λ z. PutIn z (take used c.let_go-left.new.rows) ss) word c.put_in-used.ensures.items) in
     let done = put_word v old ss (shaped_released v 0 [] rs ∙ c.requires.shaped) (omega (arith, w.len, w.short)) p in
     let left = paths_released v [] rs in
     record {
-      within = omega (arith, c.put-in-used.ensures.within, c.let-go-left.auto.rows);
+      within = omega (arith, c.put_in-used.ensures.within, c.let_go-left.auto.rows);
       items = subst (λ z. Reordered (z ++ v ∷ []) (paths [] ss)) left done.items;
       size = ap (λ k. k + 1) go.count ∙ sym (length-append (paths [] old) (v ∷ [])) ∙ reordered_length done.items;
       linked = done.linked;

@@ -9,4 +9,4 @@ returns c =
     let n = length rows - start in
     let l = length-drop start rows in
     let whole = take_all n (drop start rows) (omega arith) in
-    ap (take n) c.copy-within.ensures.after ∙ take_at (take n (drop start rows)) (drop (0 + n) rows) n (ap length whole ∙ l) ∙ whole
+    ap (take n) c.copy_within.ensures.after ∙ take_at (take n (drop start rows)) (drop (0 + n) rows) n (ap length whole ∙ l) ∙ whole

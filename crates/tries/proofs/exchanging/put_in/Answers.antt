@@ -6,8 +6,8 @@ use Rattle.tries.specs.Changes.{sprouts, settled, grown, Spotted}
 use Rattle.tries.proofs.Settling.{linked_settled, settled_append, fewer_kept}
 use Rattle.tries.proofs.exchanging.put_in.Goals as goal
 
-pub settle-rows-behind-requires : goal.settle-rows-behind-requires
-settle-rows-behind-requires c =
+pub settle_rows-behind-requires : goal.settle_rows-behind-requires
+settle_rows-behind-requires c =
     let rows = c.args.rows.now in
     let r = c.requires.room in
     let k = length-take-le (c.args.used - 0) rows (omega arith) in
@@ -19,49 +19,49 @@ settle-rows-behind-requires c =
       linked = ap linked (drop_all (length rows) rows (omega arith));
     }
 
-pub settle-word-middle-requires : goal.settle-word-middle-requires
-settle-word-middle-requires c =
+pub settle_word-middle-requires : goal.settle_word-middle-requires
+settle_word-middle-requires c =
     let rows = c.args.rows.now in
     let used = c.args.used in
     let r = c.requires.room in
     let k = length-take-le (used - 0) rows (omega arith) in
     let s = c.place-spot.ensures in
-    let b = c.settle-rows-behind.ensures in
+    let b = c.settle_rows-behind.ensures in
     let at = c.place-spot.result.at in
     record {
       deep = omega (arith, s.short);
       short = c.requires.short;
       place = omega (arith, b.near, s.within, c.requires.short);
-      within = omega (arith, b.place, c.settle-rows-behind.auto.rows);
+      within = omega (arith, b.place, c.settle_rows-behind.auto.rows);
       linked = ap linked b.items ∙ linked_settled (take (used - at) (drop at rows)) (drop (length rows) rows) (ap linked (drop_all (length rows) rows (omega arith)));
     }
 
-pub settle-rows-start-requires : goal.settle-rows-start-requires
-settle-rows-start-requires c =
+pub settle_rows-start-requires : goal.settle_rows-start-requires
+settle_rows-start-requires c =
     let rows = c.args.rows.now in
     let used = c.args.used in
     let word = c.args.word.now in
     let r = c.requires.room in
     let k = length-take-le (used - 0) rows (omega arith) in
     let s = c.place-spot.ensures in
-    let b = c.settle-rows-behind.ensures in
-    let m = c.settle-word-middle.ensures in
+    let b = c.settle_rows-behind.ensures in
+    let m = c.settle_word-middle.ensures in
     let at = c.place-spot.result.at in
     let d = c.place-spot.result.depth in
     record {
       order = omega arith;
       place = omega (arith, b.near, m.near, s.within, c.requires.short);
-      within = omega (arith, b.place, m.place, c.settle-rows-behind.auto.rows, c.settle-word-middle.auto.rows);
-      linked = ap linked m.items ∙ linked_settled (sprouts word d (length word - d)) (drop c.settle-rows-behind.result c.settle-rows-behind.new.rows)
+      within = omega (arith, b.place, m.place, c.settle_rows-behind.auto.rows, c.settle_word-middle.auto.rows);
+      linked = ap linked m.items ∙ linked_settled (sprouts word d (length word - d)) (drop c.settle_rows-behind.result c.settle_rows-behind.new.rows)
           (ap linked b.items ∙ linked_settled (take (used - at) (drop at rows)) (drop (length rows) rows) (ap linked (drop_all (length rows) rows (omega arith))));
     }
 
-pub move-down-requires : goal.move-down-requires
-move-down-requires c =
-    let b = c.settle-rows-behind.ensures in
-    let m = c.settle-word-middle.ensures in
-    let t = c.settle-rows-start.ensures in
-    omega (arith, b.place, m.place, t.place, c.settle-rows-behind.auto.rows, c.settle-word-middle.auto.rows, c.settle-rows-start.auto.rows)
+pub move_down-requires : goal.move_down-requires
+move_down-requires c =
+    let b = c.settle_rows-behind.ensures in
+    let m = c.settle_word-middle.ensures in
+    let t = c.settle_rows-start.ensures in
+    omega (arith, b.place, m.place, t.place, c.settle_rows-behind.auto.rows, c.settle_word-middle.auto.rows, c.settle_rows-start.auto.rows)
 
 pub returns : goal.returns
 returns c =
@@ -75,16 +75,16 @@ returns c =
     let at = c.place-spot.result.at in
     let d = c.place-spot.result.depth in
     let s : Spotted word rs at d = subst (λ j. Spotted word (take j rows) at d) n c.place-spot.ensures in
-    let one = c.settle-rows-behind.new.rows in
-    let two = c.settle-word-middle.new.rows in
-    let three = c.settle-rows-start.new.rows in
-    let b = c.settle-rows-behind.ensures in
-    let m = c.settle-word-middle.ensures in
-    let t = c.settle-rows-start.ensures in
-    let behind = c.settle-rows-behind.result in
-    let start = c.settle-rows-start.result in
+    let one = c.settle_rows-behind.new.rows in
+    let two = c.settle_word-middle.new.rows in
+    let three = c.settle_rows-start.new.rows in
+    let b = c.settle_rows-behind.ensures in
+    let m = c.settle_word-middle.ensures in
+    let t = c.settle_rows-start.ensures in
+    let behind = c.settle_rows-behind.result in
+    let start = c.settle_rows-start.result in
     let news = sprouts word d (length word - d) in
-    let long : length three ≡ length rows = c.settle-rows-start.auto.rows ∙ c.settle-word-middle.auto.rows ∙ c.settle-rows-behind.auto.rows in
+    let long : length three ≡ length rows = c.settle_rows-start.auto.rows ∙ c.settle_word-middle.auto.rows ∙ c.settle_rows-behind.auto.rows in
     let z : at - 0 ≡ at = omega arith in
     let front : take (at - 0) two ≡ take at rs =
     ap (λ j. take j two) z
@@ -98,8 +98,8 @@ returns c =
         at,
         d,
         s,
-        ap (λ j. take (j - start) c.move-down.new.rows) (sym long) ∙ c.move-down.ensures ∙ t.items
-            ∙ ap (λ y. settled y (drop c.settle-word-middle.result two)) front ∙ ap (settled (take at rs)) (m.items ∙ ap (settled news) back)
+        ap (λ j. take (j - start) c.move_down.new.rows) (sym long) ∙ c.move_down.ensures ∙ t.items
+            ∙ ap (λ y. settled y (drop c.settle_word-middle.result two)) front ∙ ap (settled (take at rs)) (m.items ∙ ap (settled news) back)
             ∙ sym (settled_append (take at rs) (news ++ drop at rs) [] ∙ ap (settled (take at rs)) (settled_append news (drop at rs) [])),
       );
     }

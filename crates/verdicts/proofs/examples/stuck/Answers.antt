@@ -45,4 +45,4 @@ worked =
     }
 
 pub returns : goal.returns
-returns c = record { value = c.stuck-tables.ensures; worked = worked }
+returns c = record { value = c.stuck_tables.ensures; worked = worked }

@@ -11,7 +11,7 @@ returns c =
     let A = joint_pattern j in
     let M = joint_model j in
     let accepting = joint_acceptance A M (patterns.formed A j.pattern.formed) (models.formed A.signals M j.formed) in
-    let admitted = c.admits-for-joint.ensures in
+    let admitted = c.admits_for_joint.ensures in
     record {
       test = admitted.test;
       keeps_promise = joint_promise A M accepting;

@@ -9,7 +9,7 @@ returns c =
     let s = c.args.pattern.now in
     let A = single_pattern s in
     let accepting = pattern_acceptance A (formed A s.pattern.formed) in
-    let admitted = c.admits-for-pattern.ensures in
+    let admitted = c.admits_for_pattern.ensures in
     record {
       test = admitted.test;
       keeps_promise = pattern_promise A accepting;

@@ -6,8 +6,8 @@ use Rattle.blocks.proofs.Walk.{rest_more, marked_none}
 use Rattle.blocks.proofs.reader.Reader.next.Goals as goal
 use Rattle.blocks.proofs.reader.Reader.next.Goals.{else-self-end-via-then-self-end+else-not-enter_block, else-self-end-via-else-self-end}
 
-pub enter-block-requires : goal.enter-block-requires
-enter-block-requires c =
+pub enter_block-requires : goal.enter_block-requires
+enter_block-requires c =
     let r = c.args.self.now in
     marked_none r.file.now r.place r.end (omega arith)
 

@@ -3,8 +3,8 @@ use Rattle.std.proofs.lemmas.Bool.{leb-false}
 use Rattle.checks.proofs.Stepping.{found_new}
 use Rattle.checks.proofs.states.Running.query.Goals as goal
 
-pub note-find-requires : goal.note-find-requires
-note-find-requires g c =
+pub note_find-requires : goal.note_find-requires
+note_find-requires g c =
     let s = g.K.Kind.shape c.args.kind.now in
     let h = g.S.Store.held c.args.store.now in
     let n = c.args.self.counts in
@@ -13,14 +13,14 @@ note-find-requires g c =
     record {
       ready = c.requires.ready;
       here = c.args.self.here;
-      room = leb-false (length t) n.finds (sym c.if-is-full.ensures);
+      room = leb-false (length t) n.finds (sym c.if-is_full.ensures);
       small = omega (arith, c.args.self.small, c.requires.ready.long);
       counted = c.args.self.counted;
       fresh = found_new n t fits c.args.self.here s h c.args.answer c.requires.answered c.in-Some.k _ (search rules);
     }
 
-pub note-find-requires-2 : goal.note-find-requires-2
-note-find-requires-2 g c =
+pub note_find-requires-2 : goal.note_find-requires-2
+note_find-requires-2 g c =
     let s = g.K.Kind.shape c.args.kind.now in
     let h = g.S.Store.held c.args.store.now in
     let n = c.args.self.counts in
@@ -29,7 +29,7 @@ note-find-requires-2 g c =
     record {
       ready = c.requires.ready;
       here = c.args.self.here;
-      room = leb-false (length t) n.finds (sym c.if-is-full.ensures);
+      room = leb-false (length t) n.finds (sym c.if-is_full.ensures);
       small = omega (arith, c.args.self.small, c.requires.ready.long);
       counted = c.args.self.counted;
       fresh = found_new n t fits c.args.self.here s h c.args.answer c.requires.answered c.in-Some.k _ (search rules);

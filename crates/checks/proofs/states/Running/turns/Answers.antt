@@ -11,8 +11,8 @@ loop-turn-init g c =
     let t = c.args.table.now in
     (c.requires, refl, kept_same n t (progress.Running c.args.self) refl, none_made s (length t) _)
 
-pub make-query-requires : goal.make-query-requires
-make-query-requires g c = c.loop-turn.invariant.0
+pub make_query-requires : goal.make_query-requires
+make_query-requires g c = c.loop-turn.invariant.0
 
 pub loop-turn-preserved : goal.loop-turn-preserved
 loop-turn-preserved g c =

@@ -15,16 +15,16 @@ module _ (top : ℕ) (ts : List Step) (k : ℕ) (y : Cell) (t : Step) (here : sl
   stays : below t.into y ≡ false → and_then (slice_get ts k) (stepped top y) ≡ None
   stays e = ap (λ o. and_then o (stepped top y)) here ∙ cond-false (below t.into y) (Some (capped t.out_of (y.level + t.raise) top)) None e
 
-pub returns-then-is-below : goal.returns-then-is-below
-returns-then-is-below c =
+pub returns-then-is_below : goal.returns-then-is_below
+returns-then-is_below c =
     let b = c.args.self.now in
     ap Some c.cap.ensures
-    ∙ sym (leads b.top b.steps.now c.args.k c.args.y _ (slice_get-get_or b.steps.now c.args.k _ c.if-k-self.true) (sym c.if-is-below.ensures))
+    ∙ sym (leads b.top b.steps.now c.args.k c.args.y _ (slice_get-get_or b.steps.now c.args.k _ c.if-k-self.true) (sym c.if-is_below.ensures))
 
-pub returns-else-is-below : goal.returns-else-is-below
-returns-else-is-below c =
+pub returns-else-is_below : goal.returns-else-is_below
+returns-else-is_below c =
     let b = c.args.self.now in
-    sym (stays b.top b.steps.now c.args.k c.args.y _ (slice_get-get_or b.steps.now c.args.k _ c.if-k-self.true) (sym c.if-is-below.ensures))
+    sym (stays b.top b.steps.now c.args.k c.args.y _ (slice_get-get_or b.steps.now c.args.k _ c.if-k-self.true) (sym c.if-is_below.ensures))
 
 pub returns-else-k-self : goal.returns-else-k-self
 returns-else-k-self c =

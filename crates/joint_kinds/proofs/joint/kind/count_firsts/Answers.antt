@@ -4,4 +4,4 @@ use Rattle.kind_shapes.specs.Shapes.{members}
 use Rattle.joint_kinds.proofs.joint.kind.count_firsts.Goals as goal
 
 pub returns : goal.returns
-returns c = c.member-count.ensures ∙ sym (length-map (members c.args.ends c.args.states) _)
+returns c = c.member_count.ensures ∙ sym (length-map (members c.args.ends c.args.states) _)

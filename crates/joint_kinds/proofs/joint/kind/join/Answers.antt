@@ -15,10 +15,10 @@ either_meets : (m : ℕ) (M : Machine) (b : Bool) → is_some (judged m M) ≡ b
 either_meets m M true e = silent_meets m
 either_meets m M false e = e
 
-pub invariant-of-result : goal.invariant-of-result
-invariant-of-result c =
+pub invariant_of-result : goal.invariant_of-result
+invariant_of-result c =
     let m = (automaton c.args.pattern).signals in
     let M = read c.args.model in
-    let model : read c.sound-or-silent-model.result ≡ sound_model m M =
-    c.sound-or-silent-model.ensures ∙ ap (λ (k : ℕ). sound_model k M) (ap (λ (A : Automaton). A.signals) c.parts.ensures) in
+    let model : read c.sound_or_silent-model.result ≡ sound_model m M =
+    c.sound_or_silent-model.ensures ∙ ap (λ (k : ℕ). sound_model k M) (ap (λ (A : Automaton). A.signals) c.parts.ensures) in
     (ap (λ (N : Machine). is_some (judged m N)) model ∙ either_meets m M (is_some (judged m M)) refl, tt)

@@ -8,7 +8,7 @@ pub returns : goal.returns
 returns c =
     let l : c.args.x.set < 2 ^ 64 = search rules in
     record {
-      value = ap (λ n. n ∷ missing c.args.x.set 64) c.lead-of.ensures;
+      value = ap (λ n. n ∷ missing c.args.x.set 64) c.lead_of.ensures;
       proper = joint_proper c.args.x;
       same = joint_same c.args.x l;
       order = joint_order (joint_pattern c.args.self.now) (joint_model c.args.self.now);

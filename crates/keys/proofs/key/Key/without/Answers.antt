@@ -9,6 +9,6 @@ pub returns : goal.returns
 returns c =
     let n = c.args.number in
     let k = c.args.self in
-    ap (λ v. v ++ missing c.add.result 64) c.drop-lead.ensures
+    ap (λ v. v ++ missing c.add.result 64) c.drop_lead.ensures
     ∙ ap (λ v. without n (leading k.lead) ++ v) (ap (λ s. missing s 64) c.add.ensures ∙ missing_added k.set n 64 (omega arith))
     ∙ sym (filter-append (λ m. not (eqb m n)) (leading k.lead) (missing k.set 64))

@@ -23,7 +23,7 @@ pub loop-q-init : goal.loop-q-init
 loop-q-init c =
     let o = c.args.self.now.lead in
     let e : leading o ++ missing c.args.self.now.set 0 ≡ leading o = ap (λ v. leading o ++ v) (missing_none c.args.self.now.set) ∙ append-nil (leading o) in
-    let w = c.write-lead-count.ensures in
+    let w = c.write_lead-count.ensures in
     let l = one_leads o in
     (omega (arith, w.len), w.items ∙ sym e, w.len ∙ ap length (sym e))
 

@@ -5,7 +5,7 @@ use Rattle.models.proofs.arrow.Arrow.admits.Goals as goal
 
 pub returns : goal.returns
 returns c =
-    let e = c.is-admitted.ensures in
+    let e = c.is_admitted.ensures in
     record {
       value = e;
       signals = Decides-at _ _ e (decides_agrees c.args.self c.args.event 16 (omega arith) (omega arith));

@@ -12,7 +12,7 @@ either_meets : (A : Automaton) (b : Bool) → is_some (judged A) ≡ b → is_so
 either_meets A true e = nothing_meets
 either_meets A false e = e
 
-pub invariant-of-result : goal.invariant-of-result
-invariant-of-result c =
+pub invariant_of-result : goal.invariant_of-result
+invariant_of-result c =
     let A = read c.args.self.parts in
-    (ap (λ (B : Automaton). is_some (judged B)) c.sound-or-nothing.ensures ∙ either_meets A (is_some (judged A)) refl, tt)
+    (ap (λ (B : Automaton). is_some (judged B)) c.sound_or_nothing.ensures ∙ either_meets A (is_some (judged A)) refl, tt)

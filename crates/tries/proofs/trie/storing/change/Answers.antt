@@ -4,10 +4,10 @@ use Rattle.tries.specs.Rows.{paths}
 use Rattle.tries.proofs.Stores.{put_root, root_size}
 use Rattle.tries.proofs.trie.storing.change.Goals as goal
 
-pub returns-then-is-empty : goal.returns-then-is-empty
-returns-then-is-empty c =
+pub returns-then-is_empty : goal.returns-then-is_empty
+returns-then-is_empty c =
     let v = numbers c.args.key in
-    let e = sym c.if-is-empty.ensures in
+    let e = sym c.if-is_empty.ensures in
     record {
       within = omega arith;
       items = put_root v (paths [] (take c.args.used c.args.rows.now)) e;

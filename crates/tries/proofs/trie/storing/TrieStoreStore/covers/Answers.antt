@@ -15,7 +15,7 @@ returns g c =
     let k = c.key-key.ensures in
     let t = c.args.self.now in
     let key = numbers c.key-key.result in
-    let told : c.covers-key.result ≡ reached key (words t.root (take t.used c.deref.result.now)) = c.covers-key.ensures in
+    let told : c.covers_key.result ≡ reached key (words t.root (take t.used c.deref.result.now)) = c.covers_key.ensures in
     told ∙ ap (λ z. reached key (words t.root (take t.used z))) c.deref.ensures.value ∙ ap (λ v. reached v ws) k.value
     ∙ sym (covered_keys _ s config k.order (g.K.Keyed.word c.args.x) k.proper ws c.args.self.now.proper)
     ∙ ap (covered s (map config ws)) k.same

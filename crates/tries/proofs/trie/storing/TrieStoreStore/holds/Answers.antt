@@ -15,7 +15,7 @@ returns g c =
     let k = c.key-key.ensures in
     let t = c.args.self.now in
     let key = numbers c.key-key.result in
-    let told : c.holds-key.result ≡ matched key (words t.root (take t.used c.deref.result.now)) = c.holds-key.ensures in
+    let told : c.holds_key.result ≡ matched key (words t.root (take t.used c.deref.result.now)) = c.holds_key.ensures in
     told ∙ ap (λ z. matched key (words t.root (take t.used z))) c.deref.ensures.value ∙ ap (λ v. matched v ws) k.value
     ∙ sym (alike_keys _ s config k.order (g.K.Keyed.word c.args.x) k.proper ws c.args.self.now.proper)
     ∙ ap (alike s (map config ws)) k.same

@@ -53,8 +53,8 @@ change-next-requires g c =
       shaped = ap (λ z. shaped 0 (take t.used z)) d ∙ t.shaped;
     }
 
-pub invariant-of-self : goal.invariant-of-self
-invariant-of-self g c =
+pub invariant_of-self : goal.invariant_of-self
+invariant_of-self g c =
     let t = c.args.self.now in
     let rows = vec_items t.rows in
     let rs = take t.used rows in
@@ -73,7 +73,7 @@ invariant-of-self g c =
     let used = c.change-next.result.used in
     let long : length last ≡ length rows = c.change-next.auto.rows ∙ ap length d in
     let all = with_items_is t.rows last (long ∙ sym t.rows.ok.0) in
-    let emp = c.is-empty-self.ensures in
+    let emp = c.is_empty-self.ensures in
     let items = subst (λ z. Reordered (put v (paths [] (take t.used z))) (words (none v) (take used last))) d ch.items in
     let size = reordered_length items in
     let most = put_length v (paths [] rs) in
@@ -87,10 +87,10 @@ invariant-of-self g c =
           (
             ap (λ z. bearing (take used z)) all ∙ ch.bearing,
             (
-              ap (λ z. proper_all g.row.LEADS (words c.is-empty-self.result (take used z))) all ∙ ap (λ b. proper_all g.row.LEADS (words b (take used last))) emp
+              ap (λ z. proper_all g.row.LEADS (words c.is_empty-self.result (take used z))) all ∙ ap (λ b. proper_all g.row.LEADS (words b (take used last))) emp
                   ∙ sym (proper_reordered g.row.LEADS items) ∙ proper_put g.row.LEADS v (paths [] rs) p (ap (proper_all g.row.LEADS) (sym plain) ∙ t.proper),
               (
-                ch.size ∙ sym (ap (λ b. length (words b (take used last))) emp) ∙ sym (ap (λ z. length (words c.is-empty-self.result (take used z))) all),
+                ch.size ∙ sym (ap (λ b. length (words b (take used last))) emp) ∙ sym (ap (λ z. length (words c.is_empty-self.result (take used z))) all),
                 (
                   omega (arith, ch.size, size, most, part, less, limit),
                   tt,
@@ -123,9 +123,9 @@ returns g c =
     let used = c.change-next.result.used in
     let long : length last ≡ length rows = c.change-next.auto.rows ∙ ap length d in
     let all = with_items_is t.rows last (long ∙ sym t.rows.ok.0) in
-    let emp = c.is-empty-self.ensures in
-    let after = words c.is-empty-self.result (take used (take t.rows.len (last ++ drop (length last) t.rows.items))) in
-    let same : words (none v) (take used last) ≡ after = sym (ap (λ z. words c.is-empty-self.result (take used z)) all ∙ ap (λ b. words b (take used last)) emp) in
+    let emp = c.is_empty-self.ensures in
+    let after = words c.is_empty-self.result (take used (take t.rows.len (last ++ drop (length last) t.rows.items))) in
+    let same : words (none v) (take used last) ≡ after = sym (ap (λ z. words c.is_empty-self.result (take used z)) all ∙ ap (λ b. words b (take used last)) emp) in
     let items : Reordered (put v (keys_of t)) after =
     subst (λ z. Reordered (put v (keys_of t)) z) same (subst (λ z. Reordered (put v z) (words (none v) (take used last))) (sym plain) (subst (λ z. Reordered (put v (paths [] (take t.used z))) (words (none v) (take used last))) d c.change-next.ensures.items)) in
     let r = held_after g.row.LEADS s config k.order v p c.args.x is (keys_of t) t.proper (room_of t) after items in
