@@ -22,7 +22,7 @@ returns g c =
     let xs = c.args.list.now in
     let value : Ok c.examine.result ≡ inspected s xs =
     ap Ok (examined_is s xs c.examine.result c.examine.ensures)
-    ∙ ap (λ o. if_found o (λ i. Err (Unfit i)) (Ok (examined s xs))) (unfit_is s xs None c.in-default.ensures)
+    ∙ ap (λ o. if_found o (λ i. Err (Unfit i)) (Ok (examined s xs))) (unfit_is s xs None c.in_default.ensures)
     ∙ sym (cond-false _ _ _ (sym c.if-is_too_long.ensures)) in
     let a = account s (g.K.Kind.laws c.args.kind.now) xs (Ok c.examine.result) value in
     record { value = value; cases = a.cases; test = a.test; ok = a.ok }

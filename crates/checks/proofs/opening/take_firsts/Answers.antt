@@ -11,7 +11,7 @@ use Rattle.checks.proofs.Refusing.{open_admits, open_empty, open_room}
 use Rattle.checks.proofs.Starting.{Taken, taken_none, taken_covered, taken_more, met_like, met_behind, done_like, done_ready, opened_stands}
 use Rattle.checks.proofs.Stepping.{stands_as, ready_as}
 use Rattle.checks.proofs.opening.take_firsts.Goals as goal
-use Rattle.checks.proofs.opening.take_firsts.Goals.{in-Some+then-not-covers+else-goal, in-Some+else-not-covers, in-default}
+use Rattle.checks.proofs.opening.take_firsts.Goals.{in-Some+then-not-covers+else-goal, in-Some+else-not-covers, in_default}
 
 pub loop-i-init : goal.loop-i-init
 loop-i-init g c =
@@ -77,9 +77,9 @@ loop-i-preserved g c =
           (subst (λ u. T n u c.match-first.store) (sym w.table-is)
           (subst (λ k. T n t k) (sym w.store-is)
           (taken_covered s t₀ c.loop-i.i n t h taken w.in-Some.x (sym w.in-Some.ensures) (sym w.if-not-covers.ensures), c.loop-i.invariant.1)))
-      | in-default w ↦
+      | in_default w ↦
           let y = entry_at s.firsts c.loop-i.i (omega (arith, c.loop-i-test.true, c.first_count-i-end.ensures)) in
-          none_some (sym w.in-default.ensures) y.1
+          none_some (sym w.in_default.ensures) y.1
     ]
 
 pub returns : goal.returns

@@ -23,12 +23,12 @@ returns-in_err-check_file c =
     let p = err_from_is_err_and c.from_residual.result c.from_residual.ensures.1 in
     rw (p.1, p.2) (file_as c.args.file.now (Some _) _ _ c.in_err-check_file.ensures.cases refl refl)
 
-pub returns-in-default : goal.returns-in-default
-returns-in-default c =
+pub returns-in_default : goal.returns-in_default
+returns-in_default c =
     let f = c.args.file.now in
     let p = payload f in
     file_as f None false _ (none_from _ c.in_ok-check_file.ensures.cases)
-    (no_heading (headed p) (heading_of p) c.in-default.ensures) refl
+    (no_heading (headed p) (heading_of p) c.in_default.ensures) refl
 
 pub returns-then-payload_len-heading : goal.returns-then-payload_len-heading
 returns-then-payload_len-heading c =

@@ -14,14 +14,14 @@ use Rattle.files.proofs.reading.check_rows.Goals as goal
 part : (i : ℕ) (t : List Bool) → take (i - 0) t ≡ take i t
 part i t = let z : i - 0 ≡ i = omega arith in ap (λ (k : ℕ). take k t) z
 
-pub returns-in-default : goal.returns-in-default
-returns-in-default c =
+pub returns-in_default : goal.returns-in_default
+returns-in_default c =
     let i = c.loop-i.i in
     let t = c.loop-i.frees in
     let l : length (take i t) ≡ i = length-take-le i t (omega arith) in
     sym c.loop-i.invariant.2
     ∙ rows_unknown c.args.states c.args.signals c.args.count i (rest c.loop-i.reader) c.loop-i-test.true (take i t)
-    c.in-default.ensures.cases
+    c.in_default.ensures.cases
     ∙ ap (λ (n : ℕ). Some (Operation n)) l
 
 pub returns-in_err-free : goal.returns-in_err-free

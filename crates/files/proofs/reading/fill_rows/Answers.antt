@@ -6,7 +6,7 @@ use Rattle.patterns.specs.Questions.{known}
 use Rattle.files.specs.Layout.{row_of}
 use Rattle.files.proofs.Portions.{filled_more}
 use Rattle.files.proofs.reading.fill_rows.Goals as goal
-use Rattle.files.proofs.reading.fill_rows.Goals.{in-Some, in-default}
+use Rattle.files.proofs.reading.fill_rows.Goals.{in-Some, in_default}
 
 pub next_row-requires : goal.next_row-requires
 next_row-requires c =
@@ -27,8 +27,8 @@ loop-i-preserved c =
         | in-Some w ↦
             w.rows-is ∙ filled_more 6 row_of i p c.args.rows.now c.loop-i.rows w.in-Some.row h c.loop-i.invariant.1
             (w.in-Some.ensures.cases ∙ ap row_of c.loop-i.invariant.0)
-        | in-default w ↦
-            absurd (both_ways (known (row_of (rest c.loop-i.reader))) w.in-default.ensures.cases
+        | in_default w ↦
+            absurd (both_ways (known (row_of (rest c.loop-i.reader))) w.in_default.ensures.cases
             (ap (λ (q : List ℕ). known (row_of q)) c.loop-i.invariant.0 ∙ c.requires.known i c.loop-i-test.true))
       ],
     )

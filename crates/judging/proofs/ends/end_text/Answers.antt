@@ -10,4 +10,4 @@ use Rattle.judging.proofs.ends.end_text.Goals as goal
 pub unreachable-requires : goal.unreachable-requires
 unreachable-requires c =
     let fine = ready_unaltered (pattern_shape (single_pattern c.args.pattern.now)) (counts_of c.args.check) c.args.table.now (contents c.args.store.now) (room c.args.store.now) 0 c.requires.ready in
-    c.in-default.not-Ok _ (c.tally.ensures ∙ cond-true _ _ _ fine)
+    c.in_default.not-Ok _ (c.tally.ensures ∙ cond-true _ _ _ fine)

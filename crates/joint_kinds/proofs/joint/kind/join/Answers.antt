@@ -21,4 +21,4 @@ invariant_of-result c =
     let M = read c.args.model in
     let model : read c.sound_or_silent-model.result ≡ sound_model m M =
     c.sound_or_silent-model.ensures ∙ ap (λ (k : ℕ). sound_model k M) (ap (λ (A : Automaton). A.signals) c.parts.ensures) in
-    (ap (λ (N : Machine). is_some (judged m N)) model ∙ either_meets m M (is_some (judged m M)) refl, tt)
+    record { formed = ap (λ (N : Machine). is_some (judged m N)) model ∙ either_meets m M (is_some (judged m M)) refl }

@@ -15,4 +15,4 @@ either_meets A false e = e
 pub invariant_of-result : goal.invariant_of-result
 invariant_of-result c =
     let A = read c.args.self.parts in
-    (ap (λ (B : Automaton). is_some (judged B)) c.sound_or_nothing.ensures ∙ either_meets A (is_some (judged A)) refl, tt)
+    record { formed = ap (λ (B : Automaton). is_some (judged B)) c.sound_or_nothing.ensures ∙ either_meets A (is_some (judged A)) refl }
