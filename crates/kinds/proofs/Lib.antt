@@ -2,3 +2,4 @@ pub mod Values
 pub mod Searches
 pub mod Covering
 pub mod Certificates
+pub mod Lists

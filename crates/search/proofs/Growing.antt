@@ -1,7 +1,8 @@
 -- One more row, and its configuration put into the store. Assumes nothing.
 use Rattle.std.proofs.Common.{◌≡◌, ℕ, ◌≤◌, true, false, ◌⊎◌, List, [], ◌∷◌, ◌++◌, length, Some, sym, ap, ◌∙◌, subst, inl, inr, ⊎_elim, arith}
 use Rattle.std.specs.List.{slice_get}
-use Rattle.std.proofs.iter.runs.Lists.{slice_get_within, nth_seam}
+use Rattle.std.proofs.lemmas.Option.{slice_get_within}
+use Rattle.kinds.proofs.Lists.{nth_seam}
 use Rattle.kinds.specs.Shape.{Shape}
 use Rattle.kinds.specs.Laws.{Laws}
 use Rattle.kinds.specs.Certificate.{covered}

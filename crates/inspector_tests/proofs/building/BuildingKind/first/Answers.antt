@@ -1,9 +1,8 @@
 use Rattle.std.proofs.Common.{Some, sym, ap, ◌∙◌}
 use Rattle.std.specs.Option.{option_map}
-use Rattle.std.proofs.lemmas.Option.{slice_get-get_or, slice_get_past}
+use Rattle.std.proofs.lemmas.Option.{slice_get-get_or, slice_get-map, slice_get_past}
 use Rattle.inspector_tests.specs.declared.building.Cell.{Cell}
 use Rattle.inspector_tests.specs.Building.{capped}
-use Rattle.std.proofs.iter.runs.Lists.{slice_get-map}
 use Rattle.inspector_tests.proofs.building.BuildingKind.first.Goals as goal
 
 pub returns-then-i-self : goal.returns-then-i-self

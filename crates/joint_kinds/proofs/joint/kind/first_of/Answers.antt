@@ -1,6 +1,6 @@
 use Rattle.std.proofs.Common.{ℕ, sym, ap, ◌∙◌}
 use Rattle.std.specs.Option.{option_map}
-use Rattle.std.proofs.iter.runs.Lists.{slice_get-map}
+use Rattle.std.proofs.lemmas.Option.{slice_get-map}
 use Rattle.kind_shapes.specs.declared.JointConfig.{JointConfig}
 use Rattle.kind_shapes.specs.Shapes.{members, joined}
 use Rattle.joint_kinds.proofs.joint.kind.first_of.Goals as goal
