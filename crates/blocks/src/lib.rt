@@ -1,4 +1,6 @@
 // The block layer of our files: checking, reading and writing rows of 512-byte blocks.
+#![tactic(auto)]
+
 pub mod check;
 pub mod fault;
 pub mod reader;

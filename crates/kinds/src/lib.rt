@@ -1,4 +1,6 @@
 // The interface of a kind, and whether a list of configurations covers one.
+#![tactic(auto)]
+
 ghost use Rattle.std.specs.Prelude.{◌≡◌, true, length, Decides};
 ghost use Rattle.std.specs.List.{slice_get};
 ghost use Rattle.kinds.specs.Shape.{Shape};

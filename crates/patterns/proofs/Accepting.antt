@@ -1,8 +1,7 @@
 -- Working back from the final set finds exactly the accepted sequences.
-use Rattle.std.proofs.Common.{◌≡◌, ℕ, ◌+◌, ◌%◌, ◌^◌, ◌<◌, ◌≤◌, Bool, true, false, eqb, List, [], ◌∷◌, length, get_or, Decides, sym, refl, ap, ◌∙◌, arith}
-use lib.Pow.{field}
+use Rattle.std.proofs.Common.{◌≡◌, ℕ, ◌+◌, ◌%◌, ◌^◌, true, List, [], ◌∷◌, Decides, sym, refl, ap, ◌∙◌, arith}
 use Rattle.std.proofs.lemmas.Bool.Decides.{Decides-at}
-use Rattle.sets.specs.Sets.{has, set_of, Within}
+use Rattle.sets.specs.Sets.{has, Within}
 use Rattle.sets.proofs.Members.{has_set_of, in_set_of, has_one, in_one, set_of_lt, same_set, has_low_mod}
 use Rattle.patterns.specs.Automaton.{Automaton, states, root}
 use Rattle.patterns.specs.Values.{value, back}

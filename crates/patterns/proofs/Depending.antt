@@ -1,12 +1,12 @@
 -- What the value of a row of a pattern depends on.
-use Rattle.std.proofs.Common.{◌≡◌, ℕ, zero, suc, ◌+◌, ◌%◌, ◌^◌, ◌<◌, ◌≤◌, Bool, true, false, not, ◌&&◌, ◌||◌, ◌⊎◌, List, [], length, get_or, take, fold, sym, refl, ap, ◌∙◌, ⊎_elim, arith}
+use Rattle.std.proofs.Common.{◌≡◌, ℕ, zero, suc, ◌+◌, ◌<◌, ◌≤◌, Bool, true, false, not, ◌&&◌, ◌||◌, List, [], length, get_or, take, sym, refl, ap, ◌∙◌, ⊎_elim, arith}
 use Rattle.std.proofs.lemmas.Bool.{cases_lt, both_ways, and_parts, and_from, or_cases, or_left, or_right}
 use Rattle.std.proofs.lemmas.Bool.Decides.{nat_tests}
 use Rattle.std.proofs.lemmas.List.{get_or_past}
-use Rattle.sets.specs.Sets.{has, Within, Below}
+use Rattle.sets.specs.Sets.{has, Within}
 use Rattle.patterns.specs.declared.row.Row.{Row}
-use Rattle.patterns.specs.Automaton.{Automaton, states, root, row, blank}
-use Rattle.patterns.specs.Values.{row_value_of, values, value, value_step}
+use Rattle.patterns.specs.Automaton.{Automaton, states, row, blank}
+use Rattle.patterns.specs.Values.{row_value_of, values, value}
 use Rattle.patterns.specs.Formed.{StateFree, leaf, pair, negated, Proper, constant_0, constant_1, state, signal, conjunction, disjunction, negation, Formed}
 use Rattle.patterns.proofs.Folding.{length_folded, entry, front}
 

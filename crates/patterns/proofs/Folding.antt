@@ -1,7 +1,6 @@
 -- Tables filled row by row, each entry from those before it.
 use Rattle.std.proofs.Common.{◌≡◌, ℕ, zero, suc, ◌+◌, ◌<◌, ◌≤◌, Bool, false, List, [], ◌∷◌, ◌++◌, length, get_or, take, drop, fold, sym, refl, ap, ◌∙◌, arith}
 use Rattle.std.proofs.lemmas.List.{length_push, get_or_append_left, get_or_push, length-take-le, take-append-drop}
-use Rattle.std.proofs.lemmas.List.Sums.{fold_more}
 use Rattle.patterns.specs.declared.row.Row.{Row}
 
 module _ (f : List Bool → Row → Bool) where

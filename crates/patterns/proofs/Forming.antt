@@ -1,14 +1,13 @@
 -- Tables that meet every question are a pattern.
-use Rattle.std.proofs.Common.{◌≡◌, ℕ, zero, suc, ◌+◌, ◌^◌, ◌<◌, ◌≤◌, Bool, true, false, cond, ◌&&◌, eqb, ltb, leb, ◌⊎◌, List, [], ◌∷◌, ◌++◌, length, get_or, take, is_some, Some, None, fold, Option, sym, refl, ap, ◌∙◌, subst, inl, inr, ⊎_elim, arith}
+use Rattle.std.proofs.Common.{◌≡◌, ℕ, zero, suc, ◌+◌, ◌^◌, ◌<◌, ◌≤◌, Bool, true, false, ltb, leb, List, [], ◌∷◌, length, get_or, take, is_some, Some, None, fold, Option, sym, refl, ap, ◌∙◌, subst, inl, inr, ⊎_elim, arith}
 use Rattle.std.proofs.lemmas.Bool.{and_parts, both_ways, cases_eq, ltb-true, leb-true}
 use Rattle.std.proofs.lemmas.Bool.Decides.{nat_tests}
-use Rattle.sets.specs.Sets.{Below}
 use Rattle.sets.proofs.Members.{decides_below}
 use Rattle.patterns.specs.declared.row.Row.{Row}
 use Rattle.patterns.specs.declared.fault.Fault.{Fault}
 use Rattle.patterns.specs.declared.fault.Fault.TheVariants.{Sizes, Ends, Root, Operation, Operand, Negation}
-use Rattle.patterns.specs.Automaton.{Automaton, states, root, row, blank}
-use Rattle.patterns.specs.Questions.{judged, sized, ended, roots_fault, rows_fault, row_fault, free_step, free, first, unless, known, ordered, placed, negatable}
+use Rattle.patterns.specs.Automaton.{Automaton, states, row, blank}
+use Rattle.patterns.specs.Questions.{judged, sized, ended, roots_fault, rows_fault, row_fault, free_step, free, first, unless, known, placed, negatable}
 use Rattle.patterns.specs.Formed.{StateFree, leaf, pair, negated, Proper, constant_0, constant_1, state, signal, conjunction, disjunction, negation, Formed}
 use Rattle.patterns.proofs.Marking.{marks, length_marks, marked}
 

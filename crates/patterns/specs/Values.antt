@@ -4,7 +4,7 @@
 -- values rows a d         the value of each row in turn
 -- value A a d i           the value of row i
 -- back A a d              the states whose root row is 1 under event a and set d
-use Rattle.std.specs.Prelude.{ℕ, Bool, true, false, cond, not, ◌&&◌, ◌||◌, List, [], ◌∷◌, ◌++◌, length, fold, ◌==◌, slice_index_or}
+use Rattle.std.specs.Prelude.{ℕ, Bool, true, false, cond, not, ◌&&◌, ◌||◌, List, [], ◌∷◌, ◌++◌, fold, ◌==◌, slice_index_or}
 use Rattle.sets.specs.Sets.{has, set_of}
 use Rattle.patterns.specs.declared.row.Row.{Row}
 use Rattle.patterns.specs.Automaton.{Automaton, states, root}

@@ -1,4 +1,6 @@
 // Patterns: alternating automata in tables that the caller lends, the questions asked of them, and the matcher.
+#![tactic(auto)]
+
 pub mod examples;
 pub mod fault;
 pub mod parts;

@@ -1,7 +1,6 @@
-use Rattle.std.proofs.Common.{◌≡◌, ℕ, ◌+◌, ◌-◌, ◌<◌, Bool, List, length, take, sym, ap, ◌∙◌, arith, length-set}
+use Rattle.std.proofs.Common.{◌≡◌, ℕ, ◌-◌, ◌<◌, Bool, List, length, take, sym, ap, ◌∙◌, arith, length-set}
 use Rattle.std.proofs.lemmas.List.{at_drop_all, take_more_set}
 use Rattle.std.proofs.lemmas.Result.{err_from_is_err_and}
-use Rattle.patterns.specs.declared.row.Row.{Row}
 use Rattle.patterns.specs.Automaton.{blank}
 use Rattle.patterns.specs.Questions.{rows_fault}
 use Rattle.patterns.proofs.Asking.{rows_more, rows_stop}

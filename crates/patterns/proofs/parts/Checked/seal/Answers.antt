@@ -1,4 +1,4 @@
-use Rattle.std.proofs.Common.{◌≡◌, Bool, true, false, cond, is_some, sym, refl, ap, ◌∙◌}
+use Rattle.std.proofs.Common.{◌≡◌, Bool, true, false, cond, is_some, refl, ap, ◌∙◌}
 use Rattle.patterns.specs.Automaton.{Automaton, read}
 use Rattle.patterns.specs.Nothing.{nothing}
 use Rattle.patterns.specs.Questions.{judged}

@@ -1,13 +1,12 @@
-use Rattle.std.proofs.Common.{◌≡◌, ℕ, ◌%◌, ◌^◌, ◌<◌, ◌≤◌, Bool, true, false, List, length, get_or, take, sym, refl, ap, ◌∙◌, subst, arith}
+use Rattle.std.proofs.Common.{◌≡◌, ℕ, Bool, false, List, length, get_or, sym, ap, ◌∙◌, subst, arith}
 use Rattle.std.proofs.lemmas.List.{get_or-take, get_or_default}
-use Rattle.sets.specs.Sets.{set_of, Within}
+use Rattle.sets.specs.Sets.{Within}
 use Rattle.sets.proofs.Members.{set_of_same}
-use Rattle.patterns.specs.declared.row.Row.{Row}
 use Rattle.patterns.specs.declared.pattern.Pattern.{Pattern}
-use Rattle.patterns.specs.Automaton.{Automaton, states, root, row, blank}
+use Rattle.patterns.specs.Automaton.{states, root, row, blank}
 use Rattle.patterns.specs.Formed.{Formed}
 use Rattle.patterns.specs.Questions.{ordered}
-use Rattle.patterns.specs.Values.{value, values, back}
+use Rattle.patterns.specs.Values.{value, back}
 use Rattle.patterns.specs.View.{automaton}
 use Rattle.patterns.proofs.Accepting.{step_back, back_step, back_grows, back_lowered}
 use Rattle.patterns.proofs.Depending.{value_free}

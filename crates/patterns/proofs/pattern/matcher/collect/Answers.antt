@@ -1,4 +1,4 @@
-use Rattle.std.proofs.Common.{◌≡◌, ℕ, suc, ◌+◌, ◌<◌, Bool, false, length, get_or, sym, refl, ap, ◌∙◌, add-one, arith}
+use Rattle.std.proofs.Common.{◌≡◌, ℕ, suc, ◌<◌, Bool, false, length, get_or, sym, refl, ap, ◌∙◌, add-one, arith}
 use Rattle.sets.specs.Sets.{set_of, union, one}
 use Rattle.sets.proofs.Members.{set_of_more, set_of_skip}
 use Rattle.patterns.proofs.pattern.matcher.collect.Goals as goal
