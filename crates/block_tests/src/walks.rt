@@ -25,11 +25,11 @@ fn walked(file: &[u8], payload: &[u8]) -> Option<usize> {
 fn worked_example(rt: HostRuntime) {
     let mut file = [7; 512];
     assert_eq!(rt; write_file(&EXAMPLE, &mut file).ok(), Some(512));
-    assert_eq!(rt; &file[0..4], &[0, 0, 38, 0]);
-    assert_eq!(rt; &file[4..42], &EXAMPLE);
-    assert_eq!(rt; &file[42..508], &[0; 466]);
+    assert_eq!(rt; &file[0..4], [0, 0, 38, 0].as_slice());
+    assert_eq!(rt; &file[4..42], EXAMPLE.as_slice());
+    assert_eq!(rt; &file[42..508], [0; 466].as_slice());
     // 566 is 2 × 256 + 54
-    assert_eq!(rt; &file[508..512], &[54, 2, 0, 0]);
+    assert_eq!(rt; &file[508..512], [54, 2, 0, 0].as_slice());
     assert_eq!(rt; answer(&file, LIMIT), (0, 0));
     assert_eq!(rt; payload_len(&file), 38);
     assert_eq!(rt; walked(&file, &EXAMPLE), Some(38));

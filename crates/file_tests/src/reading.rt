@@ -3,6 +3,7 @@ use crate::making::*;
 use files::matching::file_accepts;
 use files::reading::read_pattern;
 use std::process::Abort;
+use std::test::Fail;
 
 #[test]
 fn latch(rt: HostRuntime) -> Result<(), Fail> {

@@ -6,6 +6,7 @@ use patterns::examples::latch;
 use patterns::parts::Parts;
 use patterns::row;
 use patterns::row::Row;
+use std::test::Fail;
 
 #[test]
 fn latch_is_written(rt: HostRuntime) -> Result<(), Fail> {

@@ -3,6 +3,7 @@ use crate::making::*;
 use pairs::tables::pair_tables;
 use patterns::examples::latch;
 use patterns::row;
+use std::test::Fail;
 
 #[test]
 fn latch_without_latch(rt: HostRuntime) -> Result<(), Fail> {

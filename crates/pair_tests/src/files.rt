@@ -7,6 +7,7 @@ use patterns::examples::latch;
 use patterns::parts::Parts;
 use patterns::questions::MAX_ROWS;
 use sets::MAX_STATES;
+use std::test::Fail;
 
 fn written(parts: Parts, file: &mut [u8; 512]) -> Result<(), Fail> {
     match write_pattern(parts, file) {

@@ -3,6 +3,7 @@ use crate::making::*;
 use patterns::examples::latch;
 use patterns::parts::Parts;
 use patterns::row::Row;
+use std::test::Fail;
 
 fn plain<'a>(roots: &'a [u16], rows: &'a [Row]) -> Parts<'a> {
     Parts {
