@@ -11,8 +11,8 @@ room g c =
     counting_room (g.K.Kind.shape c.args.kind.now) (g.S.Store.held c.args.store.now) c.args.finds.now
     y.result (omega arith) y.is c.if-is_held.ensures c.loop-i.invariant.counted (length c.args.list.now) c.requires
 
-pub offset-bounds-list-count : goal.offset-bounds-list-count
-offset-bounds-list-count g c = let l = room g c in search rules
+pub offset_bounds-list-count : goal.offset_bounds-list-count
+offset_bounds-list-count g c = let l = room g c in search rules
 
 pub bounds-list-count : goal.bounds-list-count
 bounds-list-count g c = let l = room g c in omega arith

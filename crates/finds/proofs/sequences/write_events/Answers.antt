@@ -8,8 +8,8 @@ use Rattle.finds.proofs.Reading.{row_read}
 use Rattle.finds.proofs.Walking.{walking_row, walking_more, walking_all}
 use Rattle.finds.proofs.sequences.write_events.Goals as goal
 
-pub offset-bounds-finds-row : goal.offset-bounds-finds-row
-offset-bounds-finds-row g c = let l = walking_row _ _ c.loop-i.invariant (omega arith) in omega arith
+pub offset_bounds-finds-row : goal.offset_bounds-finds-row
+offset_bounds-finds-row g c = let l = walking_row _ _ c.loop-i.invariant (omega arith) in omega arith
 
 pub bounds-finds-row : goal.bounds-finds-row
 bounds-finds-row g c = let l = walking_row _ _ c.loop-i.invariant (omega arith) in omega arith
@@ -17,8 +17,8 @@ bounds-finds-row g c = let l = walking_row _ _ c.loop-i.invariant (omega arith) 
 pub bounds-finds-row-in-loop-i : goal.bounds-finds-row-in-loop-i
 bounds-finds-row-in-loop-i g c = let l = walking_row _ _ c.loop-i.invariant (omega arith) in omega arith
 
-pub offset-bounds-finds-row-in-loop-i : goal.offset-bounds-finds-row-in-loop-i
-offset-bounds-finds-row-in-loop-i g c = let l = walking_row _ _ c.loop-i.invariant (omega arith) in omega arith
+pub offset_bounds-finds-row-in-loop-i : goal.offset_bounds-finds-row-in-loop-i
+offset_bounds-finds-row-in-loop-i g c = let l = walking_row _ _ c.loop-i.invariant (omega arith) in omega arith
 
 pub bounds-finds-row-in-loop-i-2 : goal.bounds-finds-row-in-loop-i-2
 bounds-finds-row-in-loop-i-2 g c = let l = walking_row _ _ c.loop-i.invariant (omega arith) in omega arith
