@@ -28,9 +28,9 @@ impl Running {
         grant: u32,
     ) -> Result<Progress, (Running, Refused)>
         ensures cases { MatchResult result
-            (λ p. (advance_refusal (shape kind.now) self.counts table.old (held store.old) (limit store.old) grant ≡ None)
-            × Advanced (shape kind.now) self.counts table.old (held store.old) grant p table.new (held store.new) (limit store.new))
-            (λ e. (advance_refusal (shape kind.now) self.counts table.old (held store.old) (limit store.old) grant ≡ Some e.1)
+            (λ p. (advance_refusal (K.shape kind.now) self.counts table.old (S.held store.old) (S.limit store.old) grant ≡ None)
+            × Advanced (K.shape kind.now) self.counts table.old (S.held store.old) grant p table.new (S.held store.new) (S.limit store.new))
+            (λ e. (advance_refusal (K.shape kind.now) self.counts table.old (S.held store.old) (S.limit store.old) grant ≡ Some e.1)
             × (e.0 ≡ self) × (table.new ≡ table.old) × (store.new ≡ store.old)) }
         ensures limit { S.limit store.new ≡ S.limit store.old }
     {
@@ -50,7 +50,7 @@ impl Running {
     ) -> Progress
         requires { Ready (K.shape kind.now) self.counts table.old (S.held store.old) (S.limit store.old) }
         ensures like { Like (view result table.new (S.held store.new))
-            (queried (shape kind.now) (length table.old) grant (stood self.counts None table.old (held store.old))) }
+            (queried (K.shape kind.now) (length table.old) grant (stood self.counts None table.old (S.held store.old))) }
         ensures limit { S.limit store.new ≡ S.limit store.old }
         ensures kept { Kept self.counts table.old result table.new }
         ensures ready { NextReady (K.shape kind.now) result table.new (S.held store.new) (S.limit store.new) }
@@ -76,7 +76,7 @@ impl Running {
     ) -> Progress
         requires { Ready (K.shape kind.now) self.counts table.old (S.held store.old) (S.limit store.old) }
         ensures like { Like (view result table.new (S.held store.new))
-            (query (shape kind.now) (length table.old) (stood self.counts None table.old (held store.old))) }
+            (query (K.shape kind.now) (length table.old) (stood self.counts None table.old (S.held store.old))) }
         ensures limit { S.limit store.new ≡ S.limit store.old }
         ensures kept { Kept self.counts table.old result table.new }
         ensures ready { NextReady (K.shape kind.now) result table.new (S.held store.new) (S.limit store.new) }

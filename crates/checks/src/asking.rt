@@ -17,8 +17,8 @@ pub(crate) fn ask_open<K: Kind, S: Store<K>>(
     store: &S,
 ) -> Result<(), Refused>
     ensures { MatchResult result
-        (λ _. open_refusal (shape kind.now) rows (held store.now) (limit store.now) ≡ None)
-        (λ e. open_refusal (shape kind.now) rows (held store.now) (limit store.now) ≡ Some e) }
+        (λ _. open_refusal (K.shape kind.now) rows (S.held store.now) (S.limit store.now) ≡ None)
+        (λ e. open_refusal (K.shape kind.now) rows (S.held store.now) (S.limit store.now) ≡ Some e) }
 {
     if !are_rows_admitted(kind, rows) {
         return Err(Refused::Rows);
@@ -41,8 +41,8 @@ pub(crate) fn ask_advance<K: Kind, S: Store<K>>(
 ) -> Result<u32, Refused>
     requires { counts.finds ≤ counts.rows }
     ensures { MatchResult result
-        (λ n. (advance_refusal (shape kind.now) counts table.now (held store.now) (limit store.now) grant ≡ None) × (n ≡ grant))
-        (λ e. advance_refusal (shape kind.now) counts table.now (held store.now) (limit store.now) grant ≡ Some e) }
+        (λ n. (advance_refusal (K.shape kind.now) counts table.now (S.held store.now) (S.limit store.now) grant ≡ None) × (n ≡ grant))
+        (λ e. advance_refusal (K.shape kind.now) counts table.now (S.held store.now) (S.limit store.now) grant ≡ Some e) }
 {
     if !(is_unaltered(counts, kind, table) && is_store_kept::<K, S>(counts, store)) {
         return Err(Refused::Altered);

@@ -25,9 +25,9 @@ pub fn open<K: Kind, S: Store<K>>(
     store: &mut S,
 ) -> Result<Progress, Refused>
     ensures cases { MatchResult result
-        (λ p. (open_refusal (shape kind.now) (length table.old) (held store.old) (limit store.old) ≡ None)
-        × Opened (shape kind.now) table.old p table.new (held store.new) (limit store.new))
-        (λ e. (open_refusal (shape kind.now) (length table.old) (held store.old) (limit store.old) ≡ Some e)
+        (λ p. (open_refusal (K.shape kind.now) (length table.old) (S.held store.old) (S.limit store.old) ≡ None)
+        × Opened (K.shape kind.now) table.old p table.new (S.held store.new) (S.limit store.new))
+        (λ e. (open_refusal (K.shape kind.now) (length table.old) (S.held store.old) (S.limit store.old) ≡ Some e)
         × (table.new ≡ table.old) × (store.new ≡ store.old)) }
     ensures limit { S.limit store.new ≡ S.limit store.old }
 {

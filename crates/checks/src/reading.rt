@@ -103,7 +103,7 @@ impl Matched {
         list: &mut [Event],
     ) -> Result<usize, Refused>
         ensures { Answered (sequence (K.shape kind.now) (view (progress.Matched self.now) table.now []))
-            (sequence_asked (shape kind.now) self.now.counts table.now (length list.old)) list.old list.new result }
+            (sequence_asked (K.shape kind.now) self.now.counts table.now (length list.old)) list.old list.new result }
     {
         let finds = self.counts.finds;
         if !is_as_long(self.counts, table) {
@@ -124,7 +124,7 @@ impl Never {
         list: &mut [K::Config],
     ) -> Result<usize, Refused>
         ensures { Answered (certificate (K.shape kind.now) (view (progress.Never self.now) table.now (S.held store.now)))
-            (certificate_asked (shape kind.now) self.now.counts table.now (held store.now) (limit store.now) (length list.old)) list.old list.new result }
+            (certificate_asked (K.shape kind.now) self.now.counts table.now (S.held store.now) (S.limit store.now) (length list.old)) list.old list.new result }
     {
         let counts = self.counts;
         if !(is_unaltered(counts, kind, table) && is_store_kept::<K, S>(counts, store)) {

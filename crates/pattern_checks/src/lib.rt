@@ -29,9 +29,9 @@ pub fn run_pattern<'a, S: Store<Single<'a>>>(
     script: &mut [Step<States>],
 ) -> Result<Progress, Refused>
     ensures cases { MatchResult result
-        (λ p. (open_refusal (pattern_shape (single_pattern pattern.now)) (length table.old) (held store.old) (limit store.old) ≡ None)
-        × PatternRan (single_pattern pattern.now) table.old script.old p table.new (held store.new) (limit store.new) script.new)
-        (λ e. (open_refusal (pattern_shape (single_pattern pattern.now)) (length table.old) (held store.old) (limit store.old) ≡ Some e)
+        (λ p. (open_refusal (pattern_shape (single_pattern pattern.now)) (length table.old) (S.held store.old) (S.limit store.old) ≡ None)
+        × PatternRan (single_pattern pattern.now) table.old script.old p table.new (S.held store.new) (S.limit store.new) script.new)
+        (λ e. (open_refusal (pattern_shape (single_pattern pattern.now)) (length table.old) (S.held store.old) (S.limit store.old) ≡ Some e)
         × (table.new ≡ table.old) × (store.new ≡ store.old) × (script.new ≡ script.old)) }
     ensures limit { S.limit store.new ≡ S.limit store.old }
 {
@@ -46,9 +46,9 @@ pub fn run_joint<'a, S: Store<Joint<'a>>>(
     script: &mut [Step<JointConfig>],
 ) -> Result<Progress, Refused>
     ensures cases { MatchResult result
-        (λ p. (open_refusal (joint_shape (joint_pattern joint.now) (joint_model joint.now)) (length table.old) (held store.old) (limit store.old) ≡ None)
-        × JointRan (joint_pattern joint.now) (joint_model joint.now) table.old script.old p table.new (held store.new) (limit store.new) script.new)
-        (λ e. (open_refusal (joint_shape (joint_pattern joint.now) (joint_model joint.now)) (length table.old) (held store.old) (limit store.old) ≡ Some e)
+        (λ p. (open_refusal (joint_shape (joint_pattern joint.now) (joint_model joint.now)) (length table.old) (S.held store.old) (S.limit store.old) ≡ None)
+        × JointRan (joint_pattern joint.now) (joint_model joint.now) table.old script.old p table.new (S.held store.new) (S.limit store.new) script.new)
+        (λ e. (open_refusal (joint_shape (joint_pattern joint.now) (joint_model joint.now)) (length table.old) (S.held store.old) (S.limit store.old) ≡ Some e)
         × (table.new ≡ table.old) × (store.new ≡ store.old) × (script.new ≡ script.old)) }
     ensures limit { S.limit store.new ≡ S.limit store.old }
 {
@@ -63,9 +63,9 @@ fn run_alone<'a, S: Store<Single<'a>>>(
     script: &mut [Step<States>],
 ) -> Result<Progress, Refused>
     ensures cases { MatchResult result
-        (λ p. (open_refusal (pattern_shape (single_pattern pattern.now)) (length table.old) (held store.old) (limit store.old) ≡ None)
-        × Ran (pattern_shape (single_pattern pattern.now)) table.old script.old p table.new (held store.new) (limit store.new) script.new)
-        (λ e. (open_refusal (pattern_shape (single_pattern pattern.now)) (length table.old) (held store.old) (limit store.old) ≡ Some e)
+        (λ p. (open_refusal (pattern_shape (single_pattern pattern.now)) (length table.old) (S.held store.old) (S.limit store.old) ≡ None)
+        × Ran (pattern_shape (single_pattern pattern.now)) table.old script.old p table.new (S.held store.new) (S.limit store.new) script.new)
+        (λ e. (open_refusal (pattern_shape (single_pattern pattern.now)) (length table.old) (S.held store.old) (S.limit store.old) ≡ Some e)
         × (table.new ≡ table.old) × (store.new ≡ store.old) × (script.new ≡ script.old)) }
     ensures limit { S.limit store.new ≡ S.limit store.old }
 {
@@ -80,9 +80,9 @@ fn run_together<'a, S: Store<Joint<'a>>>(
     script: &mut [Step<JointConfig>],
 ) -> Result<Progress, Refused>
     ensures cases { MatchResult result
-        (λ p. (open_refusal (joint_shape (joint_pattern joint.now) (joint_model joint.now)) (length table.old) (held store.old) (limit store.old) ≡ None)
-        × Ran (joint_shape (joint_pattern joint.now) (joint_model joint.now)) table.old script.old p table.new (held store.new) (limit store.new) script.new)
-        (λ e. (open_refusal (joint_shape (joint_pattern joint.now) (joint_model joint.now)) (length table.old) (held store.old) (limit store.old) ≡ Some e)
+        (λ p. (open_refusal (joint_shape (joint_pattern joint.now) (joint_model joint.now)) (length table.old) (S.held store.old) (S.limit store.old) ≡ None)
+        × Ran (joint_shape (joint_pattern joint.now) (joint_model joint.now)) table.old script.old p table.new (S.held store.new) (S.limit store.new) script.new)
+        (λ e. (open_refusal (joint_shape (joint_pattern joint.now) (joint_model joint.now)) (length table.old) (S.held store.old) (S.limit store.old) ≡ Some e)
         × (table.new ≡ table.old) × (store.new ≡ store.old) × (script.new ≡ script.old)) }
     ensures limit { S.limit store.new ≡ S.limit store.old }
 {

@@ -60,9 +60,9 @@ pub fn run<K: Kind, S: Store<K>>(
     script: &mut [Step<K::Config>],
 ) -> Result<Progress, Refused>
     ensures cases { MatchResult result
-        (λ p. (open_refusal (shape kind.now) (length table.old) (held store.old) (limit store.old) ≡ None)
-        × Ran (shape kind.now) table.old script.old p table.new (held store.new) (limit store.new) script.new)
-        (λ e. (open_refusal (shape kind.now) (length table.old) (held store.old) (limit store.old) ≡ Some e)
+        (λ p. (open_refusal (K.shape kind.now) (length table.old) (S.held store.old) (S.limit store.old) ≡ None)
+        × Ran (K.shape kind.now) table.old script.old p table.new (S.held store.new) (S.limit store.new) script.new)
+        (λ e. (open_refusal (K.shape kind.now) (length table.old) (S.held store.old) (S.limit store.old) ≡ Some e)
         × (table.new ≡ table.old) × (store.new ≡ store.old) × (script.new ≡ script.old)) }
     ensures limit { S.limit store.new ≡ S.limit store.old }
 {

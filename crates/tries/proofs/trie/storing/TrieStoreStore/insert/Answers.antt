@@ -46,7 +46,7 @@ change-next-requires g c =
     let part = paths_words t.root rs in
     let count = t.count in
     let left = room_left t.used t.size (length rows) (omega arith) (omega arith) in
-    let d = c.deref-mut.ensures.value in
+    let d = c.deref_mut.ensures.value in
     record {
       room = omega (arith, left, ap length d);
       linked = ap (λ z. linked (take t.used z)) d ∙ t.linked;
@@ -67,7 +67,7 @@ invariant_of-self g c =
     let less = fewer g.row.LEADS (g.K.Kind.shape c.args.kind.now) g.K.Keyed.config k.order v p c.args.x is (keys_of t) t.proper (room_of t) e in
     let new = uncovered g.row.LEADS (g.K.Kind.shape c.args.kind.now) g.K.Keyed.config k.order v p c.args.x is (keys_of t) t.proper (room_of t) e in
     let plain = words_paths t.root rs (root_free t.root v rs new) in
-    let d = c.deref-mut.ensures.value in
+    let d = c.deref_mut.ensures.value in
     let ch = c.change-next.ensures in
     let last = c.change-next.new.rows in
     let used = c.change-next.result.used in
@@ -78,29 +78,18 @@ invariant_of-self g c =
     let size = reordered_length items in
     let most = put_length v (paths [] rs) in
     let part = ap length plain in
-    let limit : room (length (take t.rows.len (last ++ drop (length last) t.rows.items))) ≡ room_of t = ap room (ap length all ∙ long) in (
-      omega (arith, ch.within, ap length d, ap length all, long),
-      (
-        ap (λ z. linked (take used z)) all ∙ ch.linked,
-        (
-          ap (λ z. shaped 0 (take used z)) all ∙ ch.shaped,
-          (
-            ap (λ z. bearing (take used z)) all ∙ ch.bearing,
-            (
-              ap (λ z. proper_all g.row.LEADS (words c.is_empty-self.result (take used z))) all ∙ ap (λ b. proper_all g.row.LEADS (words b (take used last))) emp
-                  ∙ sym (proper_reordered g.row.LEADS items) ∙ proper_put g.row.LEADS v (paths [] rs) p (ap (proper_all g.row.LEADS) (sym plain) ∙ t.proper),
-              (
-                ch.size ∙ sym (ap (λ b. length (words b (take used last))) emp) ∙ sym (ap (λ z. length (words c.is_empty-self.result (take used z))) all),
-                (
-                  omega (arith, ch.size, size, most, part, less, limit),
-                  tt,
-                ),
-              ),
-            ),
-          ),
-        ),
-      ),
-    )
+    let limit : room (length (take t.rows.len (last ++ drop (length last) t.rows.items))) ≡ room_of t = ap room (ap length all ∙ long) in
+    record {
+      within = omega (arith, ch.within, ap length d, ap length all, long);
+      linked = ap (λ z. linked (take used z)) all ∙ ch.linked;
+      shaped = ap (λ z. shaped 0 (take used z)) all ∙ ch.shaped;
+      bearing = ap (λ z. bearing (take used z)) all ∙ ch.bearing;
+      proper =
+        ap (λ z. proper_all g.row.LEADS (words c.is_empty-self.result (take used z))) all ∙ ap (λ b. proper_all g.row.LEADS (words b (take used last))) emp
+            ∙ sym (proper_reordered g.row.LEADS items) ∙ proper_put g.row.LEADS v (paths [] rs) p (ap (proper_all g.row.LEADS) (sym plain) ∙ t.proper);
+      count = ch.size ∙ sym (ap (λ b. length (words b (take used last))) emp) ∙ sym (ap (λ z. length (words c.is_empty-self.result (take used z))) all);
+      few = omega (arith, ch.size, size, most, part, less, limit);
+    }
 
 pub returns : goal.returns
 returns g c =
@@ -118,7 +107,7 @@ returns g c =
     let new = uncovered g.row.LEADS s config k.order v p c.args.x is (keys_of t) t.proper (room_of t) e in
     let into = entered g.row.LEADS s config k.order v p c.args.x is (keys_of t) t.proper (room_of t) e in
     let plain = words_paths t.root rs (root_free t.root v rs new) in
-    let d = c.deref-mut.ensures.value in
+    let d = c.deref_mut.ensures.value in
     let last = c.change-next.new.rows in
     let used = c.change-next.result.used in
     let long : length last ≡ length rows = c.change-next.auto.rows ∙ ap length d in
