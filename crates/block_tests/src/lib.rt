@@ -1,3 +1,5 @@
+#![tactic(auto)]
+
 // Tests of the block layer: worked files, every refusal, writing and reading.
 #[cfg(test)]
 mod files;

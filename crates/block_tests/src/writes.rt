@@ -61,7 +61,10 @@ fn written(rt: HostRuntime) {
     let mut buffer = [5; 1_030];
     assert_eq!(rt; write_front(&payload, &mut buffer, 1_024), Ok(1_024));
     assert_eq!(rt; part(&buffer, 1_024, 1_030), [5; 6].as_slice());
-    assert_eq!(rt; part(&buffer, 512, 520), [1, 0, 1, 0, 3, 0, 0, 0].as_slice());
+    assert_eq!(rt;
+        part(&buffer, 512, 520),
+        [1, 0, 1, 0, 3, 0, 0, 0].as_slice()
+    );
     assert_eq!(rt; answer(part(&buffer, 0, 1_024), LIMIT), (0, 0));
     // a shorter payload over the longer one leaves the second block
     assert_eq!(rt;
@@ -69,7 +72,10 @@ fn written(rt: HostRuntime) {
         Ok(512)
     );
     assert_eq!(rt; part(&buffer, 0, 9), [0, 0, 3, 0, 1, 2, 3, 0, 0].as_slice());
-    assert_eq!(rt; part(&buffer, 512, 520), [1, 0, 1, 0, 3, 0, 0, 0].as_slice());
+    assert_eq!(rt;
+        part(&buffer, 512, 520),
+        [1, 0, 1, 0, 3, 0, 0, 0].as_slice()
+    );
     assert_eq!(rt; answer(part(&buffer, 0, 512), LIMIT), (0, 0));
     assert_eq!(rt; answer(part(&buffer, 0, 1_024), LIMIT), (23, 0));
 }

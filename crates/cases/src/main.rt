@@ -1,4 +1,6 @@
 // Judges each of the pattern files that the arguments name, and prints their names and what is to be said of them.
+#![tactic(auto)]
+
 use judging::judgement;
 use std::{env, fs};
 

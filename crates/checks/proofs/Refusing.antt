@@ -1,15 +1,14 @@
 -- What it takes that a call is not refused. Assumes nothing.
-use Rattle.std.proofs.Common.{◌≡◌, ℕ, ◌≤◌, Bool, true, false, cond, ◌&&◌, eqb, leb, List, length, take, Some, None, Decides, Option, sym, refl, ap, ◌∙◌}
-use Rattle.std.proofs.lemmas.Bool.{and_parts, and_from, eqb-true, leb-true, le-leb, eq-eqb, false≢true}
+use Rattle.std.proofs.Common.{◌≡◌, ℕ, ◌≤◌, Bool, true, false, cond, ◌&&◌, eqb, leb, List, length, take, Some, None, Decides, Option, sym, refl}
+use Rattle.std.proofs.lemmas.Bool.{and_parts, and_from, eqb-true, leb-true, le-leb, eq-eqb}
 use Rattle.kinds.specs.Shape.{Shape}
-use Rattle.kinds.proofs.Values.{none_some, false_if_not_true}
+use Rattle.kinds.proofs.Values.{none_some}
 use Rattle.search.specs.declared.Find.{Find}
-use Rattle.search.specs.Promise.{RowsFor, Admits}
-use Rattle.finds.specs.declared.refusals.Refused.{Refused}
-use Rattle.finds.specs.declared.refusals.Refused.TheVariants.{Rows, Store, Altered, Grant}
+use Rattle.search.specs.Promise.{Admits}
+use Rattle.finds.specs.declared.refusals.Refused.TheVariants.{Rows, Store, Altered}
 use Rattle.finds.proofs.Intacts.{intact_decides}
 use Rattle.checks.specs.declared.counts.Counts.{Counts}
-use Rattle.checks.specs.Questions.{is_grant, store_kept, admitted, open_refusal, unaltered, advance_refusal}
+use Rattle.checks.specs.Questions.{store_kept, admitted, open_refusal, unaltered, advance_refusal}
 use Rattle.checks.specs.Calls.{Ready}
 
 -- a question that is answered yes, since nothing was refused

@@ -14,17 +14,15 @@ use Rattle.stores.proofs.Insertions.{inserted_length}
 use Rattle.search.specs.declared.Find.{Find}
 use Rattle.search.specs.declared.Verdict.{Verdict}
 use Rattle.search.specs.declared.Verdict.TheVariants.{Matches, Never}
-use Rattle.search.specs.Search.{State, start, never_past, begun, opening, opened, queried}
+use Rattle.search.specs.Search.{State, start, begun, opening, opened, queried}
 use Rattle.search.specs.Like.{Like}
 use Rattle.search.specs.Promise.{Admits}
 use Rattle.search.proofs.Entries.{Each, each_more}
 use Rattle.search.proofs.Orders.{like_refl, like_trans, promise_like}
 use Rattle.search.proofs.Promises.{keeps_promise}
-use Rattle.checks.specs.declared.counts.Counts.{Counts}
-use Rattle.checks.specs.declared.states.Progress.{Progress}
-use Rattle.checks.specs.View.{counts_of, verdict_of, stood, view}
-use Rattle.checks.specs.Calls.{Ready, NextReady, begun_with, Stands}
-use Rattle.checks.proofs.Stepping.{drop_set, stands_as, ready_as}
+use Rattle.checks.specs.View.{stood}
+use Rattle.checks.specs.Calls.{Ready, begun_with, Stands}
+use Rattle.checks.proofs.Stepping.{drop_set}
 
 -- the entry at i is the first of what is left from i on
 pub entry_left : {A : Type 0} (xs : List A) (i : ℕ) (x : A) → slice_get xs i ≡ Some x → drop i xs ≡ x ∷ drop (i + 1) xs

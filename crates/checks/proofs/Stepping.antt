@@ -1,5 +1,5 @@
 -- What a query makes of a check: it closes a row, finds the table full, or records a row. Assumes nothing.
-use Rattle.std.proofs.Common.{◌≡◌, ℕ, zero, suc, ◌+◌, ◌<◌, ◌≤◌, Bool, true, false, cond, ltb, List, [], ◌∷◌, ◌++◌, length, get_or, take, drop, set, Some, None, Option, sym, refl, ap, ◌∙◌, subst, le_of_suc-le-suc, not-suc-le-zero, add-one, arith, length-set, length-take}
+use Rattle.std.proofs.Common.{◌≡◌, ℕ, zero, suc, ◌+◌, ◌<◌, ◌≤◌, false, cond, ltb, List, [], ◌∷◌, ◌++◌, length, get_or, take, drop, set, Some, None, Option, sym, refl, ap, ◌∙◌, subst, le_of_suc-le-suc, not-suc-le-zero, add-one, arith, length-set, length-take}
 use Rattle.std.specs.List.{slice_get}
 use Rattle.std.proofs.lemmas.List.{take_more_set}
 use Rattle.std.proofs.lemmas.Option.{slice_get-get_or}
@@ -14,7 +14,7 @@ use Rattle.stores.proofs.Insertions.{inserted_length}
 use Rattle.search.specs.declared.Find.{Find}
 use Rattle.search.specs.declared.Verdict.{Verdict}
 use Rattle.search.specs.declared.Verdict.TheVariants.{Matches, Never, Full}
-use Rattle.search.specs.Search.{State, least_move_of, find_from, closed, filled, grown, query, length_at}
+use Rattle.search.specs.Search.{State, least_move_of, find_from, query, length_at}
 use Rattle.search.specs.Like.{Like}
 use Rattle.search.proofs.Moves.{something_new}
 use Rattle.search.proofs.Steps.{query_closes, query_fills, query_grows}

@@ -1,6 +1,5 @@
 -- Queries one after another. Assumes nothing.
-use Rattle.std.proofs.Common.{◌≡◌, ℕ, zero, suc, ◌+◌, ◌-◌, ◌<◌, ◌≤◌, true, List, [], ◌∷◌, length, get_or, take, drop, is_some, Some, None, Option, sym, refl, ap, ◌∙◌, subst, add-one, arith}
-use Rattle.std.specs.List.{slice_get}
+use Rattle.std.proofs.Common.{◌≡◌, ℕ, zero, suc, ◌+◌, ◌-◌, ◌≤◌, true, List, [], ◌∷◌, get_or, drop, is_some, Option, sym, refl, ap, ◌∙◌, subst, add-one, arith}
 use Rattle.kinds.specs.Shape.{Shape}
 use Rattle.kinds.specs.Laws.{Laws}
 use Rattle.kinds.proofs.Searches.{read_at}
@@ -13,8 +12,7 @@ use Rattle.search.proofs.Orders.{like_refl, like_trans, query_like, queried_like
 use Rattle.search.proofs.Promises.{keeps_promise}
 use Rattle.checks.specs.declared.counts.Counts.{Counts}
 use Rattle.checks.specs.declared.states.Progress.{Progress}
-use Rattle.checks.specs.declared.states.Progress.TheVariants as progress
-use Rattle.checks.specs.View.{counts_of, stood, view}
+use Rattle.checks.specs.View.{counts_of}
 use Rattle.checks.specs.Calls.{Answered, Kept, Stands}
 use Rattle.checks.proofs.Stepping.{nth_taken}
 

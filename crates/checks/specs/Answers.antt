@@ -6,7 +6,7 @@
 -- certificate_asked s n t h l m   why a check with counts n, over a store that holds h and may hold l, does not write its certificate into a list of m entries
 --
 -- A tally and a row do not depend on what is held, so they are read of a state that holds nothing.
-use Rattle.std.specs.Prelude.{ℕ, cond, ◌&&◌, List, [], length, take, Some, None, Ok, Err, Option, Result, ◌==◌}
+use Rattle.std.specs.Prelude.{ℕ, cond, ◌&&◌, List, [], length, take, Some, Ok, Err, Option, Result, ◌==◌}
 use Rattle.std.specs.List.{slice_get}
 use Rattle.kinds.specs.Shape.{Shape}
 use Rattle.inspector.specs.Inspected.{if_found}

@@ -19,7 +19,7 @@
 -- Advanced s n t h g p t' h' l   the check with counts n was advanced by g queries and is p; the table t is t' since, the store holds h' in place of h and may hold l
 -- like                           the queries are those of the defined search, from whatever table and store stand for
 -- goes_on                        where the check stood q queries after opening, it stands q + g queries after it, and keeps the promise
-use Rattle.std.specs.Prelude.{◌≡◌, ℕ, suc, ◌+◌, ◌≤◌, cond, List, length, take, drop, Some, None, Option, nat_le, nat_lt, slice_set}
+use Rattle.std.specs.Prelude.{◌≡◌, ℕ, ◌+◌, ◌≤◌, cond, List, length, take, drop, Some, None, Option, nat_le, nat_lt, slice_set}
 use Rattle.std.specs.List.{slice_get}
 use Rattle.kinds.specs.Shape.{Shape}
 use Rattle.inspector.specs.Inspected.{if_found}

@@ -4,6 +4,7 @@
 // type of its own: only a running check can be advanced, only a matched one has a sequence, and only one that ended in
 // NEVER has a certificate. A check holds counts and no memory, so every later call is lent the table again. What it is
 // lent is asked whether it is as the check left it; a call is safe, and exactly defined, whatever it holds.
+#![tactic(auto)]
 
 pub mod advancing;
 mod asking;

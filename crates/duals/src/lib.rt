@@ -1,4 +1,6 @@
 // The dual of a pattern and "B without A": definitions, and what they accept.
+#![tactic(auto)]
+
 ghost use Rattle.std.specs.Prelude.{◌≡◌, None, Decides};
 ghost use Rattle.patterns.specs.Accepted.{Accepted};
 ghost use Rattle.patterns.specs.Questions.{judged};

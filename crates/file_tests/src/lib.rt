@@ -1,4 +1,5 @@
 // Tests of pattern files: reading and writing with their refusals, and round trips.
+#![tactic(auto)]
 
 #[cfg(test)]
 mod making;

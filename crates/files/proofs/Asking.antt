@@ -1,7 +1,6 @@
 -- The steps of the questions on roots and rows as they are read.
-use Rattle.std.proofs.Common.{◌≡◌, ℕ, ◌+◌, ◌-◌, ◌*◌, ◌<◌, ◌≤◌, Bool, true, false, ltb, List, [], ◌∷◌, ◌++◌, length, drop, Some, None, Option, sym, ap, ◌∙◌}
+use Rattle.std.proofs.Common.{◌≡◌, ℕ, ◌+◌, ◌-◌, ◌*◌, ◌<◌, ◌≤◌, Bool, false, ltb, List, [], ◌∷◌, ◌++◌, length, drop, Some, None, Option, sym, ap, ◌∙◌}
 use Rattle.std.proofs.lemmas.Bool.{lt-ltb, le-ltb}
-use Rattle.patterns.specs.declared.row.Row.{Row}
 use Rattle.patterns.specs.declared.fault.Fault.{Fault}
 use Rattle.patterns.specs.declared.fault.Fault.TheVariants.{Sizes, Ends, Root, Operation, Operand, Negation}
 use Rattle.patterns.specs.Questions.{judged, sized, ended, roots_fault, rows_fault, row_fault, free_step, free, first, unless, known, placed, negatable}

@@ -1,5 +1,5 @@
 -- The questions on a file in their order, and what no fault among them tells.
-use Rattle.std.proofs.Common.{◌≡◌, ℕ, ◌+◌, ◌*◌, ◌<◌, ◌≤◌, Bool, true, false, cond, ◌&&◌, eqb, leb, List, length, drop, is_some, Some, None, Option, sym, refl, ap, ◌∙◌, arith}
+use Rattle.std.proofs.Common.{◌≡◌, ℕ, ◌+◌, ◌*◌, ◌<◌, ◌≤◌, Bool, true, false, ◌&&◌, eqb, leb, List, length, drop, is_some, Some, None, Option, sym, refl, ap, ◌∙◌, arith}
 use Rattle.std.proofs.lemmas.Bool.{and_parts, leb-true}
 use Rattle.std.specs.Option.{option_map}
 use Rattle.blocks.specs.declared.fault.BlockFault.{BlockFault}
@@ -8,7 +8,7 @@ use Rattle.blocks.specs.Layout.{payload}
 use Rattle.patterns.specs.declared.fault.Fault.{Fault}
 use Rattle.patterns.specs.declared.row.Row.{Row}
 use Rattle.patterns.specs.Automaton.{Automaton, row, blank}
-use Rattle.patterns.specs.Formed.{Proper, constant_0, constant_1, state, signal, conjunction, disjunction, negation, Formed}
+use Rattle.patterns.specs.Formed.{Proper, constant_0, constant_1, state, signal, conjunction, disjunction, negation}
 use Rattle.patterns.specs.Questions.{judged, known}
 use Rattle.patterns.proofs.Forming.{formed}
 use Rattle.files.specs.declared.fault.RecordCause.TheVariants.{Heading, Length}
@@ -17,7 +17,7 @@ use Rattle.files.specs.declared.fault.RecordFault.TheVariants as record-fault
 use Rattle.files.specs.declared.fault.TableCause.TheVariants.{Pattern, Room}
 use Rattle.files.specs.declared.fault.TableFault.{TableFault}
 use Rattle.files.specs.declared.fault.TableFault.TheVariants.{Record, Table}
-use Rattle.files.specs.Layout.{states_in, rows_in, table_in, row_of, decoded}
+use Rattle.files.specs.Layout.{states_in, rows_in, row_of, decoded}
 use Rattle.files.specs.Questions.{max_file, first, unless, headed, record_fault, file_fault, read_fault}
 use Rattle.files.proofs.Portions.{get_d_each}
 use Rattle.files.proofs.Fields.{length_each}

@@ -3,7 +3,7 @@
 -- layer_name_of l     the name of a layer, in bytes
 -- line_of n l p       "refused", the number n, the layer l and the place p, with a space between them
 -- refused_line_of f   that line of the fault f
-use Rattle.std.specs.Prelude.{ℕ, List, [], ◌∷◌, ◌++◌, codes, decimal}
+use Rattle.std.specs.Prelude.{ℕ, List, ◌++◌, codes, decimal}
 use Rattle.files.specs.declared.fault.Layer.{Layer}
 use Rattle.files.specs.declared.fault.Layer.TheVariants.{Block, Record, Table}
 use Rattle.files.specs.declared.fault.TableFault.{TableFault}

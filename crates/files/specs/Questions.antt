@@ -12,7 +12,6 @@ use Rattle.blocks.specs.Faults as blocks
 use Rattle.blocks.specs.Layout.{payload}
 use Rattle.patterns.specs.Automaton.{Automaton}
 use Rattle.patterns.specs.Questions.{judged}
-use Rattle.files.specs.declared.fault.RecordCause.{RecordCause}
 use Rattle.files.specs.declared.fault.RecordCause.TheVariants.{Heading, Length, Buffer}
 use Rattle.files.specs.declared.fault.RecordFault.{RecordFault}
 use Rattle.files.specs.declared.fault.RecordFault.TheVariants as record-fault

@@ -1,4 +1,6 @@
 // Pattern files: the record and table layers over the block layer, reading, writing and matching.
+#![tactic(auto)]
+
 pub mod fault;
 pub mod heading;
 pub mod line;

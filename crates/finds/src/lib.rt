@@ -1,5 +1,7 @@
 // What the calls of a check ask of a table of finds, and what they read from it: whether it is as a search left it,
 // the least move to something new, the sequence, and the certificate. Every call takes tables of any contents.
+#![tactic(auto)]
+
 ghost use Rattle.std.specs.Prelude.{◌≡◌, suc, ◌<◌, length, Decides, ◌==◌};
 ghost use Rattle.std.specs.List.{slice_get};
 ghost use Rattle.inspector.specs.Inspected.{has_such};

@@ -1,8 +1,10 @@
 // The inspection of lists that anyone may have made, for a pattern and for a pattern with a model.
+#![tactic(auto)]
+
 ghost use Rattle.std.specs.Prelude.{◌≡◌, None, Ok};
 ghost use Rattle.kind_shapes.specs.Acceptance.{PatternAcceptance, JointAcceptance, NeverMatches, NeverTogether};
-ghost use Rattle.models.specs.Machine.{read as readModel};
-ghost use Rattle.patterns.specs.Automaton.{read as readPattern};
+ghost use Rattle.models.specs.Machine.{read as read_model};
+ghost use Rattle.patterns.specs.Automaton.{read as read_pattern};
 ghost use Rattle.patterns.specs.Questions.{judged};
 ghost use Rattle.inspections.specs.Inspections.{pattern_inspected, joint_inspected};
 ghost use Rattle.joint_kinds.specs.Questions.{joint_judged};
@@ -22,9 +24,9 @@ pub mod fault;
 // Asks the pattern's questions, and then inspects the list for it. If the list passes, the pattern accepts no sequence of
 // events at all, of any length and with any bits. The pattern kind accepts what the pattern accepts.
 pub fn inspect_pattern(parts: Parts, list: &[States]) -> Result<Inspection, InspectionFault>
-    ensures value { result ≡ pattern_inspected (readPattern parts.entry) list.now }
-    ensures ok { result ≡ Ok Inspection.Passed → NeverMatches (readPattern parts.entry) }
-    ensures accepted { judged (readPattern parts.entry) ≡ None → PatternAcceptance (readPattern parts.entry) }
+    ensures value { result ≡ pattern_inspected (read_pattern parts.entry) list.now }
+    ensures ok { result ≡ Ok Inspection.Passed → NeverMatches (read_pattern parts.entry) }
+    ensures accepted { judged (read_pattern parts.entry) ≡ None → PatternAcceptance (read_pattern parts.entry) }
 {
     examine_pattern(parts, list)
 }
@@ -37,16 +39,16 @@ pub fn inspect_joint<'a>(
     model: Model<'a>,
     list: &[JointConfig],
 ) -> Result<Inspection, InspectionFault>
-    ensures value { result ≡ joint_inspected (readPattern parts.entry) (readModel model.entry) list.now }
-    ensures ok { result ≡ Ok Inspection.Passed → NeverTogether (readPattern parts.entry) (readModel model.entry) }
-    ensures accepted { joint_judged (readPattern parts.entry) (readModel model.entry) ≡ None
-        → JointAcceptance (readPattern parts.entry) (readModel model.entry) }
+    ensures value { result ≡ joint_inspected (read_pattern parts.entry) (read_model model.entry) list.now }
+    ensures ok { result ≡ Ok Inspection.Passed → NeverTogether (read_pattern parts.entry) (read_model model.entry) }
+    ensures accepted { joint_judged (read_pattern parts.entry) (read_model model.entry) ≡ None
+        → JointAcceptance (read_pattern parts.entry) (read_model model.entry) }
 {
     examine_joint(parts, model, list)
 }
 
 fn examine_pattern(parts: Parts, list: &[States]) -> Result<Inspection, InspectionFault>
-    ensures { result ≡ pattern_inspected (readPattern parts.entry) list.now }
+    ensures { result ≡ pattern_inspected (read_pattern parts.entry) list.now }
 {
     let pattern = parts.checked()?.seal();
     let inspection = inspect(&Single::new(pattern), list)?;
@@ -58,7 +60,7 @@ fn examine_joint<'a>(
     model: Model<'a>,
     list: &[JointConfig],
 ) -> Result<Inspection, InspectionFault>
-    ensures { result ≡ joint_inspected (readPattern parts.entry) (readModel model.entry) list.now }
+    ensures { result ≡ joint_inspected (read_pattern parts.entry) (read_model model.entry) list.now }
 {
     let tables = JointParts {
         pattern: parts,

@@ -14,7 +14,7 @@ use Rattle.inspector.specs.declared.answers.Inspection.{Inspection}
 use Rattle.inspector.specs.declared.answers.Inspection.TheVariants.{Passed, First, Goal, Back}
 use Rattle.inspector.specs.declared.answers.Refused.{Refused}
 use Rattle.inspector.specs.declared.answers.Refused.TheVariants.{TooLong, Unfit}
-use Rattle.inspector.specs.Inspected.{max_entries, least, has_such, uncovered, leads_out, unfit_entry, uncovered_first, goal_entry, escaping_move, escape, inspected}
+use Rattle.inspector.specs.Inspected.{max_entries, least, has_such, leads_out, unfit_entry, uncovered_first, goal_entry, escaping_move, escape, inspected}
 use Rattle.inspector.specs.Meaning.{Entry, Least, Nowhere, UnfitEntry, UncoveredFirst, GoalEntry, Escape, Escapable, Passable, Says, PassesExactly}
 use Rattle.inspector.proofs.Leasts.{least_found, nowhere, least_place}
 use Rattle.inspector.proofs.Places.{unfit_decides, uncovered_decides, goal_decides, escape_decides, escape_below, escapable_decides}

@@ -1,4 +1,6 @@
 // The inspector: whether a list of configurations is a certificate that a kind accepts nothing.
+#![tactic(auto)]
+
 ghost use Rattle.std.specs.Prelude.{◌≡◌, true, false, length, Ok, nat_lt};
 ghost use Rattle.kinds.specs.Accepted.{NothingAccepted};
 ghost use Rattle.kinds.specs.Earliest.{Earliest};

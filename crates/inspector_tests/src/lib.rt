@@ -1,4 +1,6 @@
 // The inspector tried on a small kind: cells of a building, worked back from storey to storey.
+#![tactic(auto)]
+
 pub mod building;
 #[cfg(test)]
 mod tests;

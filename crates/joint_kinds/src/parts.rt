@@ -1,7 +1,7 @@
 // A pattern's parts with a model as a caller lends them, whatever the tables hold, and the questions asked of them.
 ghost use Rattle.std.specs.Prelude.{◌≡◌, Some, None, MatchResult};
-ghost use Rattle.patterns.specs.Automaton.{read as readPattern};
-ghost use Rattle.models.specs.Machine.{read as readModel};
+ghost use Rattle.patterns.specs.Automaton.{read as read_pattern};
+ghost use Rattle.models.specs.Machine.{read as read_model};
 ghost use Rattle.joint_kinds.specs.Questions.{joint_judged};
 ghost use Rattle.joint_kinds.specs.Tables.{checked_pattern, checked_model};
 
@@ -27,9 +27,9 @@ impl<'a> JointParts<'a> {
     // signals; or the first fault. Nothing is written.
     pub fn checked(self) -> Result<CheckedJoint<'a>, JointFault>
         ensures { MatchResult result
-            (λ c. (checked_pattern c ≡ readPattern self.entry.pattern) × (checked_model c ≡ readModel self.entry.model)
+            (λ c. (checked_pattern c ≡ read_pattern self.entry.pattern) × (checked_model c ≡ read_model self.entry.model)
             × (joint_judged (checked_pattern c) (checked_model c) ≡ None))
-            (λ f. joint_judged (readPattern self.entry.pattern) (readModel self.entry.model) ≡ Some f) }
+            (λ f. joint_judged (read_pattern self.entry.pattern) (read_model self.entry.model) ≡ Some f) }
     {
         let JointParts { pattern, model } = self;
         let checked = pattern.checked()?;

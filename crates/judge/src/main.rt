@@ -1,4 +1,6 @@
 // Reads a pattern file from standard input and prints what the search makes of its pattern, or why it is refused.
+#![tactic(auto)]
+
 ghost use Rattle.std.specs.Prelude.{◌≤◌, length, IfOk};
 
 use files::reading::MAX_FILE;

@@ -1,5 +1,5 @@
 -- Lists of as many entries as there may be rows hold the sequence and the certificate. Assumes nothing.
-use Rattle.std.proofs.Common.{◌≡◌, ℕ, suc, ◌≤◌, Bool, true, false, cond, eqb, ltb, List, [], ◌∷◌, map, length, take, drop, Some, None, filter, Option, sym, refl, ap, ◌∙◌, inl, inr, arith, length-take}
+use Rattle.std.proofs.Common.{◌≡◌, ℕ, suc, ◌≤◌, Bool, true, false, cond, List, [], ◌∷◌, map, length, take, drop, None, filter, Option, sym, ap, ◌∙◌, inl, inr, arith, length-take}
 use lib.ListN.{length-map}
 use Rattle.std.specs.List.{slice_get}
 use Rattle.std.proofs.lemmas.Option.{slice_get_within}
@@ -12,12 +12,10 @@ use Rattle.stores.specs.Holding.{alike}
 use Rattle.search.specs.declared.Find.{Find}
 use Rattle.search.specs.Search.{length_at}
 use Rattle.finds.specs.declared.refusals.Refused.{Refused}
-use Rattle.finds.specs.Intact.{Intact}
 use Rattle.finds.specs.Results.{last_of, sequence_of, certificate_of, Written}
 use Rattle.finds.proofs.Intacts.{intact_decides, intact_lengths}
 use Rattle.finds.proofs.Walking.{intact_chained, sequence_length}
 use Rattle.checks.specs.declared.counts.Counts.{Counts}
-use Rattle.checks.specs.Questions.{unaltered, store_kept}
 use Rattle.checks.specs.Answers.{sequence_asked, certificate_asked}
 use Rattle.checks.specs.Calls.{Ready}
 use Rattle.checks.proofs.Refusing.{ready_unaltered, ready_kept}

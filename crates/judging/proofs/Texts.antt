@@ -1,5 +1,5 @@
 -- The text of a state: it does not depend on the order of what is held, and a search that was granted enough has one. Assumes nothing.
-use Rattle.std.proofs.Common.{◌≡◌, ℕ, ◌≤◌, true, false, List, length, is_some, Some, None, Option, sym, refl, ap, ◌∙◌, subst, arith}
+use Rattle.std.proofs.Common.{◌≡◌, ℕ, List, length, Some, None, Option, sym, refl, ap, ◌∙◌, arith}
 use Rattle.blocks.specs.Layout.{payload}
 use Rattle.files.specs.declared.fault.TableFault.{TableFault}
 use Rattle.files.specs.declared.heading.Heading.{Heading}
@@ -14,7 +14,7 @@ use Rattle.kind_shapes.proofs.PatternAccepting.{pattern_acceptance}
 use Rattle.patterns.specs.Automaton.{Automaton}
 use Rattle.patterns.specs.Formed.{Formed}
 use Rattle.patterns.specs.declared.row.Row.{Row}
-use Rattle.reports.specs.Reports.{matches, never, full, report_text}
+use Rattle.reports.specs.Reports.{never, report_text}
 use Rattle.search.specs.declared.Verdict.{Verdict}
 use Rattle.search.specs.declared.Verdict.TheVariants.{Matches, Never, Full}
 use Rattle.search.specs.Search.{State, certificate}

@@ -1,4 +1,6 @@
 // The judgement on a pattern file: the text that says whether the pattern can match, and how.
+#![tactic(auto)]
+
 ghost use Rattle.std.specs.Prelude.{◌≡◌, IfOk, None, string_bytes};
 ghost use Rattle.blocks.specs.Layout.{payload};
 ghost use Rattle.files.specs.Layout.{decoded};

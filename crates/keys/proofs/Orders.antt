@@ -1,16 +1,16 @@
 -- Keys and the order of the two kinds. Assumes nothing.
-use Rattle.std.proofs.Common.{◌≡◌, ℕ, zero, suc, ◌+◌, ◌-◌, ◌^◌, ◌<◌, ◌≤◌, Bool, true, false, not, ◌&&◌, ◌||◌, eqb, ltb, leb, List, [], ◌∷◌, sym, refl, ap, ◌∙◌, ⊎_elim, arith}
-use Rattle.std.proofs.lemmas.Bool.{cases_Bool, cases_eq, cases_lt, both_ways, false≢true, and_parts, and_from, or_cases, or_left, or_right, eqb-true, eq-eqb, ne_eqb, lt-ltb, ltb-true, leb-true, le-leb, not-true, not_from_false, not_from_true}
+use Rattle.std.proofs.Common.{◌≡◌, ℕ, ◌+◌, ◌-◌, ◌^◌, ◌<◌, ◌≤◌, Bool, true, false, not, ◌&&◌, ◌||◌, eqb, ltb, leb, List, [], ◌∷◌, sym, refl, ap, ◌∙◌, ⊎_elim, arith}
+use Rattle.std.proofs.lemmas.Bool.{cases_Bool, cases_eq, both_ways, false≢true, and_parts, and_from, or_cases, or_left, or_right, eqb-true, eq-eqb, ne_eqb, lt-ltb, ltb-true, leb-true, le-leb, not-true, not_from_false}
 use Rattle.std.proofs.lemmas.Bool.Decides.{same_from_decides}
-use Rattle.sets.specs.Sets.{has, set_of, Within}
+use Rattle.sets.specs.Sets.{has}
 use Rattle.sets.proofs.Members.{has_set_of, in_set_of, set_of_lt, same_set}
 use Rattle.patterns.specs.Automaton.{Automaton}
 use Rattle.models.specs.Machine.{Machine}
 use Rattle.kind_shapes.specs.declared.JointConfig.{JointConfig}
-use Rattle.kind_shapes.specs.Shapes.{subset, joined, pattern_shape, joint_shape}
+use Rattle.kind_shapes.specs.Shapes.{subset, pattern_shape, joint_shape}
 use Rattle.kind_shapes.proofs.Subsets.{decides_subset}
 use Rattle.keys.specs.Numbers.{among, contained, missing, lacking, proper}
-use Rattle.keys.specs.Keys.{KeyOrder, pattern_key, pattern_config, joint_key, joint_config}
+use Rattle.keys.specs.Keys.{KeyOrder, pattern_config, joint_key, joint_config}
 use Rattle.keys.proofs.Numbers.{among_missing, decides_contained, contained_from, contained_at}
 
 -- a number of a key with no lead is a state

@@ -1,4 +1,6 @@
 // Keys of configurations: short lists of numbers in which to look for what covers a configuration.
+#![tactic(auto)]
+
 ghost use Rattle.std.specs.Prelude.{◌≡◌, ℕ, true, List};
 ghost use Rattle.keys.specs.Numbers.{proper};
 ghost use Rattle.keys.specs.Listed.{numbers};

@@ -1,4 +1,6 @@
 // What the pattern kind and the joint kind mean, and their laws: see specs/. The code here is what both kinds share.
+#![tactic(auto)]
+
 use sets::States;
 
 pub mod reading;

@@ -1,3 +1,5 @@
+#![tactic(auto)]
+
 // Tests of the pattern kind and the joint kind, and of inspections for them.
 #[cfg(test)]
 mod joint;

@@ -1,3 +1,5 @@
+#![tactic(auto)]
+
 // Tests of models: sizes, arrows, which fault comes first, what arrows admit and what models send.
 #[cfg(test)]
 mod tests {

@@ -1,4 +1,6 @@
 // LATCH without LATCH, in tables, with the cases worked out for it.
+#![tactic(auto)]
+
 ghost use Rattle.std.specs.Prelude.{◌≡◌};
 ghost use Rattle.patterns.specs.Automaton.{read};
 ghost use Rattle.pair_cases.specs.Cases.{pair_tables_of, Worked};

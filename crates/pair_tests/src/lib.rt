@@ -1,3 +1,5 @@
+#![tactic(auto)]
+
 // Tests of "B without A": what it accepts, its tables, and the refusals of two patterns and of two files.
 #[cfg(test)]
 mod accepting;

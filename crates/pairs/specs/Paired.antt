@@ -4,7 +4,7 @@
 -- Paired B A ..         the whole promise of such a call
 use Rattle.std.specs.Prelude.{◌≡◌, ℕ, ◌+◌, cond, List, is_ok, IfOk, Some, None, Option, Result, MatchResult}
 use Rattle.patterns.specs.declared.row.Row.{Row}
-use Rattle.patterns.specs.Automaton.{Automaton, states}
+use Rattle.patterns.specs.Automaton.{Automaton}
 use Rattle.patterns.specs.Questions.{judged}
 use Rattle.files.specs.declared.heading.Heading.{Heading}
 use Rattle.files.specs.Fronts.{fronts_of}

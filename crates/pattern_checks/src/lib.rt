@@ -1,5 +1,7 @@
 // A check on a pattern, and on a pattern with a model: what a script of calls leaves, in the words of sequences of
 // events.
+#![tactic(auto)]
+
 ghost use Rattle.std.specs.Prelude.{◌≡◌, length, Some, None, MatchResult};
 ghost use Rattle.kind_shapes.specs.Shapes.{pattern_shape, joint_shape};
 ghost use Rattle.pattern_kinds.specs.PatternKind.{single_pattern};

@@ -1,4 +1,6 @@
 // Reads a pattern file from standard input and says whether its pattern accepts the events that the arguments give.
+#![tactic(auto)]
+
 ghost use Rattle.std.specs.Prelude.{◌≤◌, length, IfOk};
 
 use files::line::refused_line;

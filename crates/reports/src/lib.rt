@@ -1,5 +1,7 @@
 // The text that a program prints of a check that has ended: the verdict, the queries and the finds, then what the
 // verdict has to show, each on a line of its own. A report is refused only for want of memory.
+#![tactic(auto)]
+
 ghost use Rattle.std.specs.Prelude.{◌≡◌, ◌++◌, IfOk, string_bytes, codes, OnOk};
 ghost use Rattle.reports.specs.Reports.{matches, never, full, line, lines, head_text, report_text};
 

@@ -1,12 +1,12 @@
 -- Calls one after another. Assumes nothing.
-use Rattle.std.proofs.Common.{◌≡◌, ℕ, zero, suc, ◌+◌, ◌<◌, ◌≤◌, List, [], ◌∷◌, ◌++◌, length, get_or, take, drop, set, Some, None, sym, refl, ap, ◌∙◌, subst, append_assoc, add-one, arith, length-set, length-take}
+use Rattle.std.proofs.Common.{◌≡◌, ℕ, zero, suc, ◌+◌, ◌<◌, ◌≤◌, List, [], ◌∷◌, ◌++◌, length, get_or, take, drop, set, Some, sym, refl, ap, ◌∙◌, subst, append_assoc, add-one, arith, length-set, length-take}
 use Rattle.std.specs.List.{slice_get}
 use Rattle.std.proofs.lemmas.List.{take_more_set, take_all, append-nil}
 use Rattle.std.proofs.lemmas.Option.{slice_get-get_or}
 use Rattle.kinds.specs.Shape.{Shape}
 use Rattle.kinds.specs.Laws.{Laws}
 use Rattle.search.specs.declared.Find.{Find}
-use Rattle.search.specs.Search.{State, queried, after}
+use Rattle.search.specs.Search.{queried, after}
 use Rattle.search.specs.Like.{Like}
 use Rattle.search.specs.Promise.{Admits}
 use Rattle.search.proofs.Invariant.{Sound}
@@ -14,14 +14,12 @@ use Rattle.search.proofs.Querying.{after_sound}
 use Rattle.search.proofs.Orders.{sound_like, promise_like}
 use Rattle.search.proofs.Promises.{keeps_promise}
 use Rattle.finds.proofs.Intacts.{sound_intact}
-use Rattle.checks.specs.declared.counts.Counts.{Counts}
 use Rattle.checks.specs.declared.states.Progress.{Progress}
 use Rattle.checks.specs.View.{counts_of, view}
 use Rattle.checks.specs.Calls.{Ready, Kept, Stands, Opened}
 use Rattle.checks.proofs.Stepping.{drop_set}
 use Rattle.checks.proofs.Starting.{entry_left, none_left}
 use Rattle.checks.proofs.Turning.{drop_past, kept_same, kept_trans, goes_on}
-use Rattle.scripts.specs.declared.Call.{Call}
 use Rattle.scripts.specs.declared.Answer.{Answer}
 use Rattle.scripts.specs.declared.Step.{Step}
 use Rattle.scripts.specs.Scripts.{grant_of, granted, answer_to, made, Acted, Ran}

@@ -1,4 +1,6 @@
 // A script: a list of calls on one check, and what each answered.
+#![tactic(auto)]
+
 ghost use Rattle.std.specs.Prelude.{◌≡◌, true, [], length, if◌then◌else◌, Some, None, MatchResult};
 ghost use Rattle.finds.specs.declared.refusals.Refused.TheVariants as refused;
 ghost use Rattle.checks.specs.declared.states.Progress.TheVariants as progress;

@@ -1,4 +1,6 @@
 // The backward antichain search of a kind: the types that it is about, and which tables it may be made over.
+#![tactic(auto)]
+
 ghost use Rattle.std.specs.Prelude.{Decides};
 ghost use Rattle.search.specs.Promise.{RowsFor, Admits, KeepsPromise};
 ghost use Rattle.search.specs.Like.{OrderFree};

@@ -1,4 +1,6 @@
 // The search's tables tried on a small kind.
+#![tactic(auto)]
+
 pub mod beginnings;
 #[cfg(test)]
 mod tests;

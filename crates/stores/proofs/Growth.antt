@@ -11,7 +11,7 @@ use Rattle.stores.specs.declared.refusals.Refused.{Refused}
 use Rattle.stores.specs.declared.refusals.Refused.TheVariants.{Full}
 use Rattle.stores.specs.Holding.{Reordered, inserted, alike}
 use Rattle.stores.specs.Admission.{answered_new, IfPut}
-use Rattle.stores.specs.Growth.{Fitting, Grown, Grows}
+use Rattle.stores.specs.Growth.{Grows}
 use Rattle.stores.proofs.Reorderings.{reordered_length, reordered_entry, covered_reordered, alike_reordered}
 use Rattle.stores.proofs.Insertions.{inserted_itself, inserted_from, inserted_length, inserted_covers, inserted_covers_only, inserted_keeps, inserted_alike}
 

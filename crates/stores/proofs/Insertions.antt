@@ -1,12 +1,12 @@
 -- What is held after an insertion: where it comes from, how much it is, what it covers, and that none is within another. Assumes nothing.
-use Rattle.std.proofs.Common.{◌≡◌, ℕ, zero, suc, ◌<◌, ◌≤◌, Bool, true, false, cond, ◌||◌, ltb, ◌≢◌, ◌⊎◌, List, [], ◌∷◌, ◌++◌, length, Some, Ok, Err, Result, sym, refl, ap, ◌∙◌, subst, inl, inr, ⊎_elim, arith, length-append}
+use Rattle.std.proofs.Common.{◌≡◌, ℕ, zero, suc, ◌<◌, ◌≤◌, Bool, true, false, cond, ◌||◌, ltb, ◌⊎◌, List, [], ◌∷◌, ◌++◌, length, Some, Ok, Err, Result, sym, refl, ap, ◌∙◌, subst, inl, inr, ⊎_elim, arith, length-append}
 use Rattle.std.specs.List.{slice_get}
-use Rattle.std.proofs.lemmas.Bool.{ltb-true, both_ways, cases_Bool, cond_both, or_cases, or_left, or_right}
+use Rattle.std.proofs.lemmas.Bool.{ltb-true, both_ways, cond_both, or_cases, or_left, or_right}
 use Rattle.kinds.specs.Shape.{Shape}
 use Rattle.kinds.specs.Laws.{Laws}
 use Rattle.kinds.specs.Certificate.{covered}
 use Rattle.kinds.proofs.Values.{none_some, false_if_not_true}
-use Rattle.kinds.proofs.Covering.{covering_entry, entry_covers, covered_append, covered_within}
+use Rattle.kinds.proofs.Covering.{covering_entry, entry_covers, covered_append}
 use Rattle.stores.specs.Holding.{Reordered, Apart, dropped, inserted, alike}
 use Rattle.stores.specs.declared.refusals.Refused.{Refused}
 use Rattle.stores.specs.declared.refusals.Refused.TheVariants.{Covered, Full}

@@ -1,4 +1,6 @@
 // The interface of a store of configurations, and an insertion that leaves out what is covered.
+#![tactic(auto)]
+
 ghost use Rattle.std.specs.Prelude.{◌≡◌, ℕ, ◌≤◌, true, List, length, Ok, MatchResult, OnOk};
 ghost use Rattle.kinds.specs.Certificate.{covered};
 ghost use Rattle.stores.specs.Holding.{Reordered, Apart, inserted, alike};

@@ -1,4 +1,6 @@
 // Calls that a benchmark in another language makes.
+#![tactic(auto)]
+
 ghost use Rattle.std.specs.Prelude.{◌≡◌};
 ghost use Rattle.files.specs.Questions.{read_fault};
 ghost use Rattle.timed.specs.Numbers.{refusal_number};

@@ -1,4 +1,6 @@
 // The call that a benchmark in another language makes to judge a pattern file.
+#![tactic(auto)]
+
 ghost use Rattle.std.specs.Prelude.{◌≡◌, ◌<◌, ◌≤◌, ◌++◌, length, drop};
 ghost use Rattle.judging.specs.Judgement.{judgement_text};
 

@@ -1,5 +1,7 @@
 // The list and the trie side by side: the same long list of insertions and questions, drawn from a sequence that looks
 // random and is always the same. It prints what was counted, and how often the two differed.
+#![tactic(auto)]
+
 use joint_kinds::joint::Joint;
 use joint_kinds::parts::JointParts;
 use kind_shapes::JointConfig;

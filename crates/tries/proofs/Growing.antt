@@ -1,10 +1,10 @@
 -- The rows of a word put in at a place. Assumes nothing.
-use Rattle.std.proofs.Common.{◌≡◌, ℕ, zero, suc, ◌+◌, ◌-◌, ◌<◌, ◌≤◌, Bool, true, false, cond, ◌&&◌, ◌||◌, eqb, ltb, leb, List, [], ◌∷◌, ◌++◌, length, get_or, take, drop, sym, refl, ap, ◌∙◌, subst, ⊎_elim, add-one, arith, take-append-drop}
-use Rattle.std.proofs.lemmas.Bool.{and_parts, and_from, eq-eqb, ne_eqb, le-leb, lt-ltb, cond_both}
-use Rattle.std.proofs.lemmas.List.{append_assoc, take_all, take_more, take-take, length-take-le}
+use Rattle.std.proofs.Common.{◌≡◌, ℕ, zero, suc, ◌+◌, ◌-◌, ◌<◌, ◌≤◌, true, cond, ◌&&◌, ltb, leb, List, [], ◌∷◌, ◌++◌, length, get_or, take, drop, sym, refl, ap, ◌∙◌, subst, add-one, arith, take-append-drop}
+use Rattle.std.proofs.lemmas.Bool.{and_from, eq-eqb, ne_eqb, le-leb, lt-ltb, cond_both}
+use Rattle.std.proofs.lemmas.List.{take_all, take_more, take-take}
 use Rattle.tries.specs.declared.row.Row.{Row}
 use Rattle.stores.specs.Holding.{Reordered, none, same, swap, next}
-use Rattle.tries.specs.Rows.{way, after, paths, run, linked, shaped, bearing}
+use Rattle.tries.specs.Rows.{way, after, paths, linked, shaped, bearing}
 use Rattle.tries.specs.Changes.{sprout, sprouts, grown, Spotted, PutIn}
 use Rattle.tries.proofs.Paths.{length_way, shaped_parts, paths_append, paths_lead}
 use Rattle.tries.proofs.Settling.{lower, widen, paths_settled, linked_settled, shaped_settled, bearing_settled}

@@ -1,7 +1,7 @@
 -- The search for the place of a word. Assumes nothing.
-use Rattle.std.proofs.Common.{◌≡◌, ℕ, zero, suc, ◌+◌, ◌<◌, ◌≤◌, Bool, true, false, List, [], ◌∷◌, ◌++◌, length, get_or, take, drop, sym, refl, ap, ◌∙◌, subst, ⊎_elim, add-one, arith, length-drop, take-append-drop}
+use Rattle.std.proofs.Common.{◌≡◌, ℕ, zero, suc, ◌+◌, ◌<◌, ◌≤◌, true, List, [], ◌∷◌, ◌++◌, length, get_or, take, drop, sym, refl, ap, ◌∙◌, subst, ⊎_elim, arith}
 use Rattle.std.proofs.lemmas.Bool.{cases_lt}
-use Rattle.std.proofs.lemmas.List.{drop_all, drop-drop, take_all, take_more, take-take, length-take-le}
+use Rattle.std.proofs.lemmas.List.{drop_all, drop-drop, take_more, take-take, length-take-le}
 use Rattle.tries.specs.declared.row.Row.{Row}
 use Rattle.tries.specs.Rows.{way, after, run, linked, shaped}
 use Rattle.tries.specs.Changes.{Spotted}

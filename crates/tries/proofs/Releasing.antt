@@ -1,11 +1,11 @@
 -- Keys let go. Assumes nothing.
-use Rattle.std.proofs.Common.{◌≡◌, ℕ, zero, suc, ◌+◌, ◌-◌, ◌<◌, ◌≤◌, Bool, true, false, cond, not, ◌&&◌, ◌||◌, eqb, ltb, leb, List, [], ◌∷◌, ◌++◌, length, get_or, take, drop, set, filter, sym, refl, ap, ◌∙◌, subst, ⊎_elim, arith}
-use Rattle.std.proofs.lemmas.List.{append_assoc, append-nil, length-append, length-take-le, take_more, take_all, drop_all, get_or-append_right, set-append_right}
-use Rattle.keys.specs.Numbers.{contained, none}
+use Rattle.std.proofs.Common.{◌≡◌, ℕ, zero, suc, ◌+◌, ◌-◌, ◌<◌, Bool, true, false, cond, not, ◌&&◌, eqb, ltb, leb, List, [], ◌∷◌, ◌++◌, length, get_or, take, drop, set, sym, refl, ap, ◌∙◌, subst, arith}
+use Rattle.std.proofs.lemmas.List.{append_assoc, length-append, length-take-le, take_more, get_or-append_right, set-append_right}
+use Rattle.keys.specs.Numbers.{contained}
 use Rattle.tries.specs.declared.row.Row.{Row}
 use Rattle.tries.specs.Rows.{way, after, paths, run, linked, shaped}
 use Rattle.tries.specs.Changes.{kept, freed, released}
-use Rattle.tries.proofs.Paths.{Parts, length_way, shaped_parts, linked_parts, paths_append, after_append}
+use Rattle.tries.proofs.Paths.{Parts, length_way, shaped_parts, paths_append, after_append}
 use Rattle.tries.proofs.Walks.{blank, read_at}
 
 -- ---- the shape from a row on

@@ -1,11 +1,11 @@
 -- Rows put before others. Assumes nothing.
-use Rattle.std.proofs.Common.{◌≡◌, ℕ, zero, suc, ◌+◌, ◌-◌, ◌*◌, ◌<◌, ◌≤◌, Bool, true, false, cond, ◌&&◌, ◌||◌, eqb, ltb, leb, List, [], ◌∷◌, ◌++◌, length, get_or, take, drop, set, sym, refl, ap, ◌∙◌, subst, ⊎_elim, arith, length-drop}
-use Rattle.std.proofs.lemmas.Bool.{cases_lt, cases_Bool, both_ways, and_parts, and_from, eq-eqb, lt-ltb, le-ltb, ltb-true, ltb-false, or_parts, le-leb, cond_both}
-use Rattle.std.proofs.lemmas.List.{drop-set, take-set, drop-drop, take-take, drop_more, get_or-take}
+use Rattle.std.proofs.Common.{◌≡◌, ℕ, suc, ◌+◌, ◌-◌, ◌*◌, ◌<◌, ◌≤◌, true, false, cond, ◌&&◌, ◌||◌, eqb, ltb, leb, List, [], ◌∷◌, ◌++◌, length, get_or, take, drop, set, sym, refl, ap, ◌∙◌, subst, ⊎_elim, arith}
+use Rattle.std.proofs.lemmas.Bool.{cases_lt, cases_Bool, and_parts, and_from, eq-eqb, lt-ltb, ltb-true, ltb-false, or_parts, le-leb, cond_both}
+use Rattle.std.proofs.lemmas.List.{drop-set, take-take, get_or-take}
 use Rattle.tries.specs.declared.row.Row.{Row}
-use Rattle.tries.specs.Rows.{way, after, paths, run, linked, shaped, bearing}
+use Rattle.tries.specs.Rows.{way, paths, run, linked, shaped, bearing}
 use Rattle.tries.specs.Changes.{counted, bear, settled}
-use Rattle.tries.proofs.Paths.{length_way, way_take, run_deeper, run_stops, run_stopped, run_le, shaped_parts, linked_parts, paths_lead}
+use Rattle.tries.proofs.Paths.{length_way, way_take, run_stops, run_stopped, shaped_parts, paths_lead}
 use Rattle.tries.proofs.Walks.{blank, read_at}
 
 -- ---- one row

@@ -1,10 +1,10 @@
 -- The keys that a trie holds, as configurations. Assumes nothing.
-use Rattle.std.proofs.Common.{◌≡◌, ℕ, zero, suc, ◌+◌, ◌-◌, ◌*◌, ◌/◌, ◌<◌, ◌≤◌, Bool, true, false, cond, not, ◌&&◌, ◌||◌, ltb, List, [], ◌∷◌, ◌++◌, map, length, Ok, Err, sym, refl, ap, ◌∙◌, subst, ⊎_elim, arith}
+use Rattle.std.proofs.Common.{◌≡◌, ℕ, suc, ◌+◌, ◌-◌, ◌*◌, ◌/◌, ◌<◌, ◌≤◌, Bool, true, false, cond, not, ◌&&◌, ◌||◌, ltb, List, [], ◌∷◌, ◌++◌, map, length, Ok, Err, sym, refl, ap, ◌∙◌, subst, arith}
 use lib.ListN.{length-map}
 use Rattle.stores.specs.declared.refusals.Refused.TheVariants.{Covered, Full}
 use Rattle.stores.specs.Admission.{admitted}
 use Rattle.stores.proofs.Insertions.{admitted_new}
-use Rattle.std.proofs.lemmas.Bool.{and_parts, and_from, cases_Bool, cond_both, false≢true, both_ways}
+use Rattle.std.proofs.lemmas.Bool.{and_parts, and_from, cond_both, false≢true, both_ways}
 use Rattle.kinds.specs.Shape.{Shape}
 use Rattle.kinds.specs.Certificate.{covered}
 use Rattle.stores.specs.Holding.{Reordered, none, same, swap, next, dropped, inserted, alike}

@@ -1,12 +1,12 @@
 -- The walk down the rows by the numbers of a key. Assumes nothing.
-use Rattle.std.proofs.Common.{◌≡◌, ℕ, zero, suc, ◌+◌, ◌<◌, ◌≤◌, Bool, true, false, cond, ◌&&◌, ◌||◌, eqb, ltb, leb, List, [], ◌∷◌, ◌++◌, length, get_or, take, drop, sym, refl, ap, ◌∙◌, subst, ⊎_elim, add-one, arith, length-drop, take-append-drop}
+use Rattle.std.proofs.Common.{◌≡◌, ℕ, zero, suc, ◌+◌, ◌<◌, ◌≤◌, Bool, true, false, cond, ◌&&◌, ◌||◌, eqb, ltb, leb, List, [], ◌∷◌, ◌++◌, length, get_or, take, drop, sym, refl, ap, ◌∙◌, subst, ⊎_elim, arith, length-drop, take-append-drop}
 use Rattle.std.proofs.lemmas.Bool.{cases_lt, cases_Bool, both_ways, and_parts, and_from, or_left, or_right, eq-eqb, le-leb}
-use Rattle.std.proofs.lemmas.List.{drop_more, drop_all, drop-drop, take_all, take_more, take-take}
+use Rattle.std.proofs.lemmas.List.{drop_more, drop_all, drop-drop, take_all}
 use Rattle.keys.specs.Numbers.{among, contained}
 use Rattle.keys.proofs.Numbers.{among_append, contained_at}
 use Rattle.tries.specs.declared.row.Row.{Row}
-use Rattle.tries.specs.Rows.{way, after, paths, run, linked, shaped, some}
-use Rattle.tries.proofs.Paths.{Parts, length_way, way_take, run_deeper, run_stops, run_le, shaped_parts, linked_parts, paths_lead, after_append}
+use Rattle.tries.specs.Rows.{way, paths, run, linked, shaped, some}
+use Rattle.tries.proofs.Paths.{Parts, length_way, way_take, run_deeper, run_stops, run_le, shaped_parts, linked_parts, paths_lead}
 
 -- ---- rows behind a subtree
 

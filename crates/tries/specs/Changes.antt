@@ -9,7 +9,7 @@
 -- Spotted           a place for w: row i, where the first d numbers are those of w, and no row beneath the row that d is counted from follows
 -- PutIn w rs ss     ss is rs with the rows of w put in at some such place
 -- put v ws          the keys once v is put in: those that contain all of v are dropped
-use Rattle.std.specs.Prelude.{◌≡◌, ℕ, zero, suc, ◌-◌, ◌<◌, ◌≤◌, Bool, true, cond, not, ◌&&◌, ◌||◌, List, [], ◌∷◌, ◌++◌, length, take, drop, filter, ◌==◌, nat_lt, slice_index}
+use Rattle.std.specs.Prelude.{◌≡◌, ℕ, zero, suc, ◌-◌, ◌<◌, ◌≤◌, cond, not, ◌&&◌, ◌||◌, List, [], ◌∷◌, ◌++◌, length, take, drop, filter, ◌==◌, nat_lt, slice_index}
 use Rattle.keys.specs.Numbers.{contained}
 use Rattle.tries.specs.declared.row.Row.{Row}
 use Rattle.tries.specs.Rows.{way, after, run}

@@ -4,8 +4,8 @@
 -- keys_of t     the keys that it holds
 -- room_of t     the most that it can hold
 -- within_room   it never holds more than that
-use Rattle.std.specs.Prelude.{◌≡◌, ℕ, ◌≤◌, List, map, length, take, vec_items}
-use Rattle.std.proofs.Common.{sym, ap, arith}
+use Rattle.std.specs.Prelude.{ℕ, ◌≤◌, List, map, length, take, vec_items}
+use Rattle.std.proofs.Common.{arith}
 use Rattle.std.proofs.lemmas.List.{length-map}
 use Rattle.tries.specs.declared.row.Row.{Row}
 use Rattle.tries.specs.declared.trie.TrieStore.{TrieStore}

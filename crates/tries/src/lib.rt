@@ -1,4 +1,6 @@
 // The trie: a store of configurations by their keys.
+#![tactic(auto)]
+
 mod asking;
 mod changing;
 mod exchanging;

@@ -1,4 +1,6 @@
 // Reads two pattern files and writes the file of the pattern that accepts what the first accepts and the second does not.
+#![tactic(auto)]
+
 ghost use Rattle.std.specs.Prelude.{◌≤◌, length, IfOk};
 
 use anyhow::anyhow;

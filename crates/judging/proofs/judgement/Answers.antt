@@ -1,4 +1,4 @@
-use Rattle.std.proofs.Common.{◌≡◌, is_some, ap}
+use Rattle.std.proofs.Common.{is_some, ap}
 use Rattle.blocks.specs.Layout.{payload}
 use Rattle.files.specs.Layout.{decoded}
 use Rattle.files.proofs.Ordering.{sound}

@@ -1,4 +1,4 @@
-use Rattle.std.proofs.Common.{◌≡◌, sym, refl, ap, ◌∙◌}
+use Rattle.std.proofs.Common.{sym, refl, ap, ◌∙◌}
 use Rattle.checks.specs.View.{counts_of, view}
 use Rattle.checks.proofs.Refusing.{ready_unaltered}
 use Rattle.scripts.specs.Scripts.{grant_of, answer_to}

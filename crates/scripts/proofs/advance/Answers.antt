@@ -1,4 +1,4 @@
-use Rattle.std.proofs.Common.{◌≡◌, refl}
+use Rattle.std.proofs.Common.{refl}
 use Rattle.checks.specs.declared.states.Progress.TheVariants as progress
 use Rattle.scripts.proofs.Acting.{acted_ended}
 use Rattle.scripts.proofs.advance.Goals as goal

@@ -1,4 +1,4 @@
-use Rattle.std.proofs.Common.{◌≡◌, sym, refl, ap, ◌∙◌}
+use Rattle.std.proofs.Common.{ap}
 use Rattle.checks.specs.declared.states.Progress.TheVariants as progress
 use Rattle.scripts.proofs.Acting.{no_grant, acted_refused}
 use Rattle.scripts.proofs.advance_running.Goals as goal

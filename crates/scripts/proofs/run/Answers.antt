@@ -1,4 +1,4 @@
-use Rattle.std.proofs.Common.{◌≡◌, ℕ, ◌<◌, ◌≤◌, length, sym, refl, ap, ◌∙◌, subst, arith}
+use Rattle.std.proofs.Common.{◌<◌, ◌≤◌, length, sym, refl, ◌∙◌, subst, arith}
 use Rattle.search.specs.Promise.{Admits}
 use Rattle.checks.proofs.Refusing.{open_admits, open_room}
 use Rattle.scripts.proofs.Scripting.{under_none, under_ready, under_more, under_done}

@@ -1,4 +1,4 @@
-use Rattle.std.proofs.Common.{◌≡◌, ℕ, ◌+◌, ◌<◌, ◌≤◌, Bool, true, false, length, drop, Some, sym, refl, ap, ◌∙◌, subst, arith, rules}
+use Rattle.std.proofs.Common.{◌≡◌, ℕ, ◌+◌, ◌<◌, ◌≤◌, length, drop, Some, sym, refl, ap, ◌∙◌, subst, arith}
 use Rattle.kinds.proofs.Values.{none_some}
 use Rattle.kinds.proofs.Searches.{entry_at}
 use Rattle.search.specs.declared.Verdict.TheVariants.{Matches}

@@ -1,5 +1,4 @@
-use Rattle.std.proofs.Common.{◌≡◌, ℕ, ◌+◌, ◌<◌, ◌≤◌, List, length, set, sym, refl, ap, ◌∙◌, arith, rules}
-use Rattle.search.specs.declared.Find.{Find}
+use Rattle.std.proofs.Common.{ℕ, ◌+◌, ◌<◌, ◌≤◌, length, set, sym, refl, ap, ◌∙◌, arith, rules}
 use Rattle.checks.proofs.Stepping.{length_read, length_small}
 use Rattle.checks.proofs.querying.note_find.Goals as goal
 

@@ -1,4 +1,4 @@
-use Rattle.std.proofs.Common.{◌≡◌, ◌<◌, length, sym, ap, ◌∙◌, arith}
+use Rattle.std.proofs.Common.{◌<◌, length, sym, ap, ◌∙◌, arith}
 use Rattle.inspector.specs.Inspected.{if_found}
 use Rattle.checks.proofs.Stepping.{nth_take, length_read}
 use Rattle.checks.proofs.reading.length_at.Goals as goal

@@ -1,4 +1,4 @@
-use Rattle.std.proofs.Common.{◌≡◌, ℕ, Bool, List, length, Some, None, Decides, Option, sym, refl, ap, ◌∙◌, subst, arith}
+use Rattle.std.proofs.Common.{◌≡◌, ℕ, List, length, Some, None, Decides, Option, ap, ◌∙◌, subst, arith}
 use Rattle.blocks.specs.Layout.{payload}
 use Rattle.patterns.specs.declared.fault.Fault.{Fault}
 use Rattle.patterns.specs.Accepted.{Accepted}

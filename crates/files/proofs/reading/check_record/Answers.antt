@@ -1,4 +1,4 @@
-use Rattle.std.proofs.Common.{◌≡◌, ℕ, ◌+◌, ◌*◌, Bool, true, false, cond, eqb, List, length, Some, None, Option, sym, refl, ap, ◌∙◌, arith}
+use Rattle.std.proofs.Common.{◌≡◌, Bool, true, false, cond, length, Some, None, refl, ap, arith}
 use Rattle.std.proofs.lemmas.Result.{err_from_is_err_and}
 use Rattle.std.proofs.lemmas.Bool.{eq-eqb, ne_eqb}
 use Rattle.blocks.specs.Layout.{payload}
@@ -6,7 +6,7 @@ use Rattle.patterns.proofs.Forming.{none_from}
 use Rattle.files.specs.declared.heading.Heading.{Heading}
 use Rattle.files.specs.Heading.{heading_of, length_of}
 use Rattle.files.specs.Questions.{headed}
-use Rattle.files.proofs.Ordering.{measured, file_as}
+use Rattle.files.proofs.Ordering.{file_as}
 use Rattle.files.proofs.reading.check_record.Goals as goal
 
 -- which way the heading went

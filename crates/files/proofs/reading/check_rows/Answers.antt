@@ -1,9 +1,8 @@
-use Rattle.std.proofs.Common.{◌≡◌, ℕ, ◌+◌, ◌-◌, ◌*◌, ◌<◌, ◌≤◌, Bool, List, [], ◌∷◌, ◌++◌, length, take, drop, Some, None, Option, sym, ap, ◌∙◌, subst, arith, length-set}
+use Rattle.std.proofs.Common.{◌≡◌, ℕ, ◌+◌, ◌-◌, ◌<◌, Bool, List, [], ◌∷◌, ◌++◌, length, take, Some, None, sym, ap, ◌∙◌, arith, length-set}
 use Rattle.std.proofs.lemmas.List.{length-drop, length-take-le, take_more_set}
 use Rattle.std.proofs.lemmas.Result.{err_from_is_err_and}
 use Rattle.blocks.specs.Reading.{rest}
 use Rattle.patterns.specs.declared.row.Row.{Row}
-use Rattle.patterns.specs.declared.fault.Fault.{Fault}
 use Rattle.patterns.specs.declared.fault.Fault.TheVariants.{Operation}
 use Rattle.patterns.specs.Questions.{rows_fault, row_fault, free}
 use Rattle.files.specs.Layout.{each, row_of}

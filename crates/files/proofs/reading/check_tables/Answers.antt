@@ -1,9 +1,8 @@
-use Rattle.std.proofs.Common.{◌≡◌, ℕ, ◌+◌, ◌*◌, ◌≤◌, true, false, List, [], length, drop, Some, None, sym, refl, ap, ◌∙◌, arith}
+use Rattle.std.proofs.Common.{ℕ, ◌+◌, ◌*◌, true, false, List, [], length, Some, None, sym, refl, ap, ◌∙◌, arith}
 use Rattle.std.proofs.lemmas.List.{length-drop}
 use Rattle.std.proofs.lemmas.Result.{err_from_is_err_and}
 use Rattle.std.proofs.lemmas.Bool.Decides.{nat_tests}
 use Rattle.blocks.specs.Layout.{payload}
-use Rattle.blocks.specs.Reading.{rest}
 use Rattle.patterns.specs.Questions.{roots_fault, rows_fault}
 use Rattle.files.specs.Layout.{each, root_of, row_of}
 use Rattle.files.proofs.Asking.{judged_as}

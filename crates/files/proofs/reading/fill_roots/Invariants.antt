@@ -1,4 +1,4 @@
-use Rattle.std.proofs.Common.{◌≡◌, ◌*◌, ◌++◌, length, drop}
+use Rattle.std.proofs.Common.{◌≡◌, ◌*◌, ◌++◌, drop}
 use Rattle.blocks.specs.Reading.{rest}
 use Rattle.files.specs.Layout.{each, root_of}
 use Rattle.files.proofs.reading.fill_roots.Given as goal

@@ -1,4 +1,4 @@
-use Rattle.std.proofs.Common.{◌≡◌, ◌*◌, ◌++◌, length, drop}
+use Rattle.std.proofs.Common.{◌≡◌, ◌*◌, ◌++◌, drop}
 use Rattle.blocks.specs.Reading.{rest}
 use Rattle.files.specs.Layout.{each, row_of}
 use Rattle.files.proofs.reading.fill_rows.Given as goal

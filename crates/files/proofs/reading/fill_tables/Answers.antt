@@ -1,8 +1,6 @@
-use Rattle.std.proofs.Common.{◌≡◌, ℕ, ◌+◌, ◌*◌, List, ◌++◌, length, drop, sym, ap, ◌∙◌, arith}
+use Rattle.std.proofs.Common.{ℕ, ◌+◌, ◌*◌, List, ◌++◌, length, drop, ap, ◌∙◌, arith}
 use Rattle.std.proofs.lemmas.List.{length-drop}
 use Rattle.blocks.specs.Layout.{payload}
-use Rattle.blocks.specs.Reading.{rest}
-use Rattle.patterns.specs.declared.row.Row.{Row}
 use Rattle.patterns.specs.Questions.{known}
 use Rattle.files.specs.Layout.{each, root_of, row_of}
 use Rattle.files.proofs.Portions.{rows_next}

@@ -1,4 +1,4 @@
-use Rattle.std.proofs.Common.{◌≡◌, sym, refl, ap, ◌∙◌, subst}
+use Rattle.std.proofs.Common.{◌∙◌}
 use Rattle.std.proofs.lemmas.Bool.{cond-true}
 use Rattle.kind_shapes.specs.Shapes.{pattern_shape}
 use Rattle.pattern_kinds.specs.PatternKind.{single_pattern}

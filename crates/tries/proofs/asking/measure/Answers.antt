@@ -1,4 +1,4 @@
-use Rattle.std.proofs.Common.{◌≡◌, ◌+◌, ◌-◌, ◌<◌, ◌≤◌, true, length, get_or, drop, sym, refl, ap, ◌∙◌, subst, arith, rules}
+use Rattle.std.proofs.Common.{◌≡◌, ◌<◌, true, get_or, drop, ap, subst, arith, rules}
 use Rattle.std.proofs.lemmas.List.{drop_all, drop-drop}
 use Rattle.tries.specs.Rows.{run, linked}
 use Rattle.tries.proofs.Walks.{blank, read_at, skip_fits, drop_linked, run_jump, run_here}

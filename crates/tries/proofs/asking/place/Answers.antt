@@ -1,4 +1,4 @@
-use Rattle.std.proofs.Common.{length, get_or, arith, rules}
+use Rattle.std.proofs.Common.{get_or, arith, rules}
 use Rattle.tries.proofs.Walks.{blank, read_at, skip_fits}
 use Rattle.tries.proofs.Places.{search_start, search_end, search_stops, search_next, search_skip}
 use Rattle.tries.proofs.asking.place.Goals as goal

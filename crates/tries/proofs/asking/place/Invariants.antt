@@ -1,4 +1,4 @@
-use Rattle.std.proofs.Common.{ℕ, ◌-◌, List, [], length}
+use Rattle.std.proofs.Common.{◌-◌, length}
 use Rattle.tries.proofs.Places.{Search}
 use Rattle.tries.proofs.asking.place.Given as goal
 

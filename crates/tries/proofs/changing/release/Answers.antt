@@ -1,12 +1,11 @@
-use Rattle.std.proofs.Common.{◌≡◌, ℕ, ◌+◌, ◌-◌, ◌<◌, ◌≤◌, Bool, true, false, cond, not, ◌&&◌, List, [], ◌∷◌, ◌++◌, length, get_or, take, drop, set, sym, refl, ap, ◌∙◌, subst, arith, rules}
+use Rattle.std.proofs.Common.{◌≡◌, ◌+◌, ◌<◌, ◌≤◌, cond, not, ◌&&◌, [], ◌++◌, length, get_or, take, set, sym, refl, ap, ◌∙◌, subst, arith}
 use lib.ListN.{length-replicate}
 use Rattle.std.proofs.lemmas.List.{take_all, drop_all, append-nil}
 use Rattle.keys.specs.Numbers.{contained, none}
 use Rattle.keys.specs.Listed.{numbers}
 use Rattle.keys.proofs.Numbers.{rest_none}
-use Rattle.tries.specs.declared.row.Row.{Row}
 use Rattle.tries.specs.Rows.{way, after, paths}
-use Rattle.tries.specs.Changes.{freed, released}
+use Rattle.tries.specs.Changes.{released}
 use Rattle.tries.proofs.Walks.{blank}
 use Rattle.tries.proofs.Trails.{Trail, trail_start, trail_left, trail_more}
 use Rattle.tries.proofs.Releasing.{parts_at, released_row, released_more, after_more, count_more}

@@ -1,4 +1,4 @@
-use Rattle.std.proofs.Common.{◌≡◌, ◌+◌, ◌-◌, ◌<◌, ◌≤◌, true, ◌||◌, ltb, length, drop, sym, ap, ◌∙◌, arith, length-drop, rules}
+use Rattle.std.proofs.Common.{◌≡◌, ◌-◌, true, ◌||◌, ltb, drop, arith, length-drop, rules}
 use Rattle.std.proofs.lemmas.Bool.{or_left, or_right, lt-ltb, not-false}
 use Rattle.std.proofs.lemmas.List.{take-set}
 use Rattle.tries.specs.Rows.{run}

@@ -1,4 +1,4 @@
-use Rattle.std.proofs.Common.{◌≡◌, ℕ, ◌+◌, ◌-◌, ◌<◌, ◌≤◌, true, ◌∷◌, length, get_or, take, drop, sym, refl, ap, ◌∙◌, subst, arith, rules}
+use Rattle.std.proofs.Common.{◌≡◌, ◌+◌, ◌-◌, ◌<◌, true, length, get_or, take, drop, sym, ap, ◌∙◌, subst, arith}
 use Rattle.tries.specs.Rows.{linked}
 use Rattle.tries.specs.Changes.{bear, settled}
 use Rattle.tries.proofs.Walks.{blank}

@@ -1,4 +1,4 @@
-use Rattle.std.proofs.Common.{◌≡◌, ℕ, suc, ◌+◌, ◌-◌, ◌<◌, ◌≤◌, true, ◌∷◌, length, take, drop, sym, refl, ap, ◌∙◌, subst, arith, rules}
+use Rattle.std.proofs.Common.{◌≡◌, suc, ◌-◌, true, length, drop, sym, ap, ◌∙◌, subst, arith}
 use Rattle.tries.specs.Rows.{linked}
 use Rattle.tries.specs.Changes.{bear, settled, sprout, sprouts}
 use Rattle.tries.proofs.Settling.{linked_settled, fewer_kept}

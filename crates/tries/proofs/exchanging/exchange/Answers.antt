@@ -1,12 +1,12 @@
-use Rattle.std.proofs.Common.{◌≡◌, ℕ, ◌+◌, ◌-◌, ◌<◌, ◌≤◌, true, List, [], ◌∷◌, ◌++◌, length, take, sym, refl, ap, ◌∙◌, subst, arith, rules}
+use Rattle.std.proofs.Common.{◌≡◌, ◌+◌, ◌-◌, [], ◌∷◌, ◌++◌, length, take, sym, ap, ◌∙◌, subst, arith, rules}
 use Rattle.std.proofs.lemmas.List.{length-take-le, length-append}
 use Rattle.stores.specs.Holding.{Reordered}
 use Rattle.stores.proofs.Reorderings.{reordered_length}
 use Rattle.keys.specs.Listed.{numbers}
 use Rattle.tries.specs.Rows.{paths, linked, shaped}
-use Rattle.tries.specs.Changes.{kept, released, PutIn}
+use Rattle.tries.specs.Changes.{released, PutIn}
 use Rattle.tries.proofs.Releasing.{length_released, links_released, shaped_released, paths_released}
-use Rattle.tries.proofs.Growing.{few_paths, put_word, Put}
+use Rattle.tries.proofs.Growing.{few_paths, put_word}
 use Rattle.tries.proofs.exchanging.exchange.Goals as goal
 
 pub put_in-used-requires : goal.put_in-used-requires

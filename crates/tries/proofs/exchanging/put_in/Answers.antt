@@ -1,8 +1,8 @@
-use Rattle.std.proofs.Common.{◌≡◌, ℕ, ◌+◌, ◌-◌, ◌<◌, ◌≤◌, true, List, [], ◌∷◌, ◌++◌, length, take, drop, sym, refl, ap, ◌∙◌, subst, arith, rules}
+use Rattle.std.proofs.Common.{◌≡◌, ◌-◌, [], ◌++◌, length, take, drop, sym, ap, ◌∙◌, subst, arith}
 use Rattle.std.proofs.lemmas.List.{length-take-le, take-take, drop_all}
 use Rattle.std.proofs.lemmas.Slice.{between_is}
 use Rattle.tries.specs.Rows.{linked}
-use Rattle.tries.specs.Changes.{sprouts, settled, grown, Spotted}
+use Rattle.tries.specs.Changes.{sprouts, settled, Spotted}
 use Rattle.tries.proofs.Settling.{linked_settled, settled_append, fewer_kept}
 use Rattle.tries.proofs.exchanging.put_in.Goals as goal
 

@@ -1,4 +1,4 @@
-use Rattle.std.proofs.Common.{◌≡◌, ℕ, length, None, subst}
+use Rattle.std.proofs.Common.{ℕ, length, None, subst}
 use Rattle.search.specs.Search.{queried}
 use Rattle.search.specs.Like.{Like}
 use Rattle.checks.specs.View.{stood, view}

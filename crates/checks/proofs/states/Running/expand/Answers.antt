@@ -1,4 +1,3 @@
-use Rattle.std.proofs.Common.{◌≡◌, ◌<◌, length, arith, rules}
 use Rattle.checks.proofs.Turning.{answered_at}
 use Rattle.checks.proofs.states.Running.expand.Goals as goal
 

@@ -1,4 +1,4 @@
-use Rattle.std.proofs.Common.{◌≡◌, ◌≤◌, length, arith}
+use Rattle.std.proofs.Common.{◌≤◌, length, arith}
 use Rattle.checks.proofs.Making.{left}
 use Rattle.checks.proofs.states.Running.make_query.Goals as goal
 

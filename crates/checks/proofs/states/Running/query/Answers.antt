@@ -1,4 +1,4 @@
-use Rattle.std.proofs.Common.{◌≡◌, ◌≤◌, length, sym, arith, rules}
+use Rattle.std.proofs.Common.{◌≤◌, length, sym, arith, rules}
 use Rattle.std.proofs.lemmas.Bool.{leb-false}
 use Rattle.checks.proofs.Stepping.{found_new}
 use Rattle.checks.proofs.states.Running.query.Goals as goal

@@ -1,4 +1,4 @@
-use Rattle.std.proofs.Common.{◌≡◌, ◌+◌, ◌<◌, ◌≤◌, length, None, sym, refl, ap, ◌∙◌, arith}
+use Rattle.std.proofs.Common.{◌+◌, ◌≤◌, length, None, refl, ◌∙◌, arith}
 use Rattle.checks.specs.declared.states.Progress.TheVariants as progress
 use Rattle.checks.specs.View.{stood}
 use Rattle.checks.proofs.Turning.{kept_same, kept_trans, none_made, one_made, rest_made}

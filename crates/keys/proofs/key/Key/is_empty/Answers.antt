@@ -1,4 +1,4 @@
-use Rattle.std.proofs.Common.{◌≡◌, ◌^◌, ◌<◌, ◌++◌, sym, ap, ◌∙◌, rules}
+use Rattle.std.proofs.Common.{◌^◌, ◌<◌, ◌++◌, sym, ap, ◌∙◌, rules}
 use Rattle.keys.specs.Numbers.{none, missing}
 use Rattle.keys.specs.Listed.{leading}
 use Rattle.keys.proofs.Numbers.{none_missing}

@@ -1,4 +1,4 @@
-use Rattle.std.proofs.Common.{◌≡◌, not, eqb, ◌++◌, sym, ap, ◌∙◌, arith}
+use Rattle.std.proofs.Common.{not, eqb, ◌++◌, sym, ap, ◌∙◌, arith}
 use Rattle.std.proofs.lemmas.List.Elements.{filter-append}
 use Rattle.keys.specs.Numbers.{without, missing}
 use Rattle.keys.specs.Listed.{leading}

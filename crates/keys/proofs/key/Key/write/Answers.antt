@@ -1,9 +1,9 @@
-use Rattle.std.proofs.Common.{◌≡◌, ℕ, suc, ◌+◌, ◌<◌, ◌≤◌, Bool, true, false, not, List, [], ◌∷◌, ◌++◌, length, take, Some, None, Option, sym, refl, ap, ◌∙◌, add-one, arith}
+use Rattle.std.proofs.Common.{◌≡◌, ℕ, ◌+◌, ◌<◌, ◌≤◌, true, false, [], ◌∷◌, ◌++◌, length, take, Some, None, Option, sym, ap, ◌∙◌, add-one, arith}
 use Rattle.std.proofs.lemmas.List.{append-nil, append_assoc, length-append, take_more_set}
 use Rattle.sets.specs.Sets.{has}
 use Rattle.keys.specs.Numbers.{missing}
 use Rattle.keys.specs.Listed.{leading}
-use Rattle.keys.proofs.Numbers.{missing_none, missing_more, missing_skip, missing_length}
+use Rattle.keys.proofs.Numbers.{missing_none, missing_more, missing_skip}
 use Rattle.keys.proofs.key.Key.write.Goals as goal
 use Rattle.keys.proofs.key.Key.write.Goals.{then-not-holds, else-not-holds}
 

@@ -1,4 +1,4 @@
-use Rattle.std.proofs.Common.{◌≡◌, [], take, sym, refl, ap, ◌∙◌, arith}
+use Rattle.std.proofs.Common.{[], take, sym, refl, arith}
 use Rattle.keys.specs.Listed.{numbers}
 use Rattle.tries.specs.Rows.{paths}
 use Rattle.tries.proofs.Stores.{put_root, root_size}

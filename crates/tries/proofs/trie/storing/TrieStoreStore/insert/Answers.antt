@@ -1,4 +1,4 @@
-use Rattle.std.proofs.Common.{◌≡◌, ℕ, ◌+◌, ◌-◌, ◌<◌, ◌≤◌, true, false, List, [], ◌++◌, map, length, take, drop, Ok, Err, vec_items, sym, refl, ap, ◌∙◌, subst, arith, rules}
+use Rattle.std.proofs.Common.{◌≡◌, true, [], ◌++◌, map, length, take, drop, Ok, Err, vec_items, sym, refl, ap, ◌∙◌, subst, arith}
 use Rattle.std.proofs.lemmas.List.{length-take-le, with_items_is}
 use Rattle.stores.specs.Holding.{Reordered}
 use Rattle.stores.proofs.Reorderings.{reordered_length}
@@ -85,8 +85,8 @@ invariant_of-self g c =
       shaped = ap (λ z. shaped 0 (take used z)) all ∙ ch.shaped;
       bearing = ap (λ z. bearing (take used z)) all ∙ ch.bearing;
       proper =
-        ap (λ z. proper_all g.row.LEADS (words c.is_empty-self.result (take used z))) all ∙ ap (λ b. proper_all g.row.LEADS (words b (take used last))) emp
-            ∙ sym (proper_reordered g.row.LEADS items) ∙ proper_put g.row.LEADS v (paths [] rs) p (ap (proper_all g.row.LEADS) (sym plain) ∙ t.proper);
+          ap (λ z. proper_all g.row.LEADS (words c.is_empty-self.result (take used z))) all ∙ ap (λ b. proper_all g.row.LEADS (words b (take used last))) emp
+          ∙ sym (proper_reordered g.row.LEADS items) ∙ proper_put g.row.LEADS v (paths [] rs) p (ap (proper_all g.row.LEADS) (sym plain) ∙ t.proper);
       count = ch.size ∙ sym (ap (λ b. length (words b (take used last))) emp) ∙ sym (ap (λ z. length (words c.is_empty-self.result (take used z))) all);
       few = omega (arith, ch.size, size, most, part, less, limit);
     }
