@@ -1,15 +1,15 @@
 -- Numbers that stand in several bytes, the low byte first.
---   Bytes bs        each element of the list bs is a byte
---   number bs       the number that the bytes bs write
---   bytes_of n x     the lowest n bytes of x
---   next_number n bs the number in the first n bytes of bs, if bs has so many
---   next_three_of bs    the three numbers in the first six bytes of bs, of two bytes each, if bs has so many
---   head bs         the first byte of bs, if there is one
+--   Bytes bs           each element of the list bs is a byte
+--   number bs          the number that the bytes bs write
+--   bytes_of n x       the lowest n bytes of x
+--   next_number n bs   the number in the first n bytes of bs, if bs has so many
+--   next_three_of bs   the three numbers in the first six bytes of bs, of two bytes each, if bs has so many
+--   head bs            the first byte of bs, if there is one
 use Rattle.std.specs.Prelude.{ℕ, zero, suc, ◌+◌, ◌*◌, ◌/◌, ◌%◌, ◌<◌, cond, List, [], ◌∷◌, length, take, drop, Some, None, Option, nat_le}
-use Rattle.std.specs.List.{AllByRecursion as All}
+use Rattle.std.specs.List.{AllByRecursion}
 
 abbrev pub Bytes : List ℕ → Type 0
-Bytes bs = All (λ b. b < 256) bs
+Bytes bs = AllByRecursion (λ b. b < 256) bs
 
 abbrev pub number : List ℕ → ℕ
 number [] = 0

@@ -1,11 +1,11 @@
 -- What is wrong with a file of blocks: the first question that is answered no.
---   cause_number     the number of the refusal, cause by cause
---   refusal f       the number and the place of the fault f
---   length_fits n limit  whether a file may have n bytes: 512 to the limit, and whole blocks
---   fills used last whether a block may use so many bytes: 504, or in the last block 1 to 504
---   zeros bs        whether all of bs are 0
---   block_fault b last block    what is wrong with the block at place b
---   file_fault file limit       what is wrong with a file that may have at most limit bytes
+--   cause_number               the number of the refusal, cause by cause
+--   refusal f                  the number and the place of the fault f
+--   length_fits n limit        whether a file may have n bytes: 512 to the limit, and whole blocks
+--   fills used last            whether a block may use so many bytes: 504, or in the last block 1 to 504
+--   zeros bs                   whether all of bs are 0
+--   block_fault b last block   what is wrong with the block at place b
+--   file_fault file limit      what is wrong with a file that may have at most limit bytes
 use Rattle.std.specs.Prelude.{ℕ, zero, suc, ◌+◌, ◌/◌, ◌%◌, Bool, true, cond, ◌&&◌, List, [], ◌∷◌, length, take, drop, Some, None, Option, ◌==◌, nat_le, nat_lt}
 use Rattle.blocks.specs.declared.fault.BlockFault.{BlockFault}
 use Rattle.blocks.specs.declared.fault.BlockCause.{BlockCause}

@@ -1,13 +1,13 @@
 -- A file is a row of blocks of 512 bytes: number (2 bytes), used count (2), payload (504), check (4).
---   number_in, used_in, room_in, check_in    the four fields of a block
---   weighed k bs    the first byte of bs times k, the next times k + 1, and so on, added up
---   sum_of block     the sum that a right check has: the bytes before it, weighed from 1
---   front_of block   the payload bytes in use
---   payload file    the bytes in use of all whole blocks, in order
---   block_count n    how many blocks a payload of n bytes takes
---   head_of b part   block b up to its check, where part is in use
---   block_of b part  block b with part in use
---   blocks_of p      the file whose payload is p
+--   number_in, used_in, room_in, check_in   the four fields of a block
+--   weighed k bs                            the first byte of bs times k, the next times k + 1, and so on, added up
+--   sum_of block                            the sum that a right check has: the bytes before it, weighed from 1
+--   front_of block                          the payload bytes in use
+--   payload file                            the bytes in use of all whole blocks, in order
+--   block_count n                           how many blocks a payload of n bytes takes
+--   head_of b part                          block b up to its check, where part is in use
+--   block_of b part                         block b with part in use
+--   blocks_of p                             the file whose payload is p
 use Rattle.std.specs.Prelude.{ℕ, zero, suc, ◌+◌, ◌-◌, ◌*◌, ◌/◌, List, [], ◌∷◌, ◌++◌, length, take, drop, replicate}
 use Rattle.blocks.specs.Bytes.{number, bytes_of}
 

@@ -1,7 +1,7 @@
 -- Walking a payload.
---   rest r          the payload bytes that the reader r has still to hand out
---   Stands r        the reader r stands before a byte in use of the block that it entered
---   payload_len_of file the length that the number of blocks and the last used count give
+--   rest r                the payload bytes that the reader r has still to hand out
+--   Stands r              the reader r stands before a byte in use of the block that it entered
+--   payload_len_of file   the length that the number of blocks and the last used count give
 use Rattle.std.specs.Prelude.{ℕ, ◌+◌, ◌-◌, ◌*◌, ◌/◌, ◌<◌, ◌≤◌, cond, List, ◌++◌, length, take, drop, nat_lt}
 use Rattle.blocks.specs.declared.reader.Reader.{Reader}
 use Rattle.blocks.specs.Layout.{payload, used_in}

@@ -1,5 +1,5 @@
 -- Laying a payload into a buffer.
---   file_len_of n       the length of the file of a payload of n bytes, if there is such a file
+--   file_len_of n   the length of the file of a payload of n bytes, if there is such a file
 --   writes n room   what writing a payload of n bytes into a buffer of room bytes answers
 use Rattle.std.specs.Prelude.{ℕ, ◌*◌, cond, ◌||◌, Some, None, Ok, Err, Option, Result, ◌==◌, nat_lt}
 use Rattle.blocks.specs.declared.writer.WriteRefusal.{WriteRefusal}

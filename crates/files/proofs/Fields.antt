@@ -2,7 +2,7 @@
 use Rattle.std.proofs.Common.{◌≡◌, ℕ, zero, suc, ◌+◌, ◌*◌, ◌<◌, ◌≤◌, List, [], ◌∷◌, ◌++◌, length, take, drop, sym, refl, ap, ◌∙◌, mul-zero, mul-suc, arith, length-append, length-drop}
 use Rattle.std.proofs.lemmas.List.{append_assoc, drop-drop, drop_at, take-append-drop, length-take-le}
 use Rattle.std.proofs.ByRecursion.{All-append, All-take, All-drop}
-use Rattle.std.specs.List.{flat_map, AllByRecursion as All}
+use Rattle.std.specs.List.{flat_map, AllByRecursion}
 use Rattle.blocks.specs.Bytes.{Bytes, bytes_of}
 use Rattle.blocks.proofs.Numbers.{bytes_of_number}
 use Rattle.files.specs.Layout.{field, each}
@@ -39,7 +39,7 @@ length_joined k g long (x ∷ xs) =
 -- parts of k bytes, which f reads and g writes
 module _ {X : Type 0} (k : ℕ) (f : List ℕ → X) (g : X → List ℕ) where
   -- f reads what g wrote
-  pub each_joined : ((x : X) → length (g x) ≡ k) → (xs : List X) (behind : List ℕ) → All (λ x. (zs : List ℕ) → f (g x ++ zs) ≡ x) xs
+  pub each_joined : ((x : X) → length (g x) ≡ k) → (xs : List X) (behind : List ℕ) → AllByRecursion (λ x. (zs : List ℕ) → f (g x ++ zs) ≡ x) xs
       → each k f (length xs) (flat_map g xs ++ behind) ≡ xs
   each_joined long [] behind h = refl
   each_joined long (x ∷ xs) behind h =

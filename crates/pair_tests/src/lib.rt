@@ -4,8 +4,8 @@
 #[cfg(test)]
 mod accepting;
 #[cfg(test)]
-mod files;
-#[cfg(test)]
 mod making;
 #[cfg(test)]
 mod sizes;
+#[cfg(test)]
+mod two_files;
