@@ -31,9 +31,10 @@ impl<const LEADS: usize> TrieStore<LEADS> {
         }
     }
 
-    // Gives the rows back. What stands in them means nothing any more.
+    // Gives the rows back, as they stand. What stands in them means nothing any more.
     pub fn into_rows(self) -> Vec<Row>
-        ensures { room (length result.items) ≡ room_of self.entry }
+        ensures items { result.items ≡ self.entry.rows.items }
+        ensures limit { room (length result.items) ≡ room_of self.entry }
     {
         self.rows
     }
