@@ -101,7 +101,8 @@ fn operations(rt: HostRuntime) -> Result<(), Fail> {
     Ok(())
 }
 
-// A state that is final at the start accepts the empty sequence; a condition that is met by no state left accepts for good.
+// A state that is final at the start accepts the empty sequence; a condition that is met by no state left accepts for
+// good.
 #[test]
 fn edges(rt: HostRuntime) -> Result<(), Fail> {
     let rows = [Row {

@@ -56,6 +56,7 @@ impl Over<'_> {
         }
     }
 
+    // The operation, which one of the seven numbers stands for.
     fn operation(self) -> Operation
         ensures { code result ≡ self.entry.row.operation }
     {

@@ -1,11 +1,10 @@
 // What a pattern does: the states that reach a set, and whether a sequence is accepted.
-ghost use Rattle.std.specs.Prelude.{◌≡◌, ℕ, ◌%◌, ◌^◌, false, length, is_some, if◌then◌else◌, Some, None, Decides, MatchResult, take, slice_index_or};
+ghost use Rattle.std.specs.Prelude.{◌≡◌, ℕ, ◌%◌, ◌^◌, false, length, Some, None, Decides, MatchResult, take, slice_index_or};
 ghost use Rattle.sets.specs.Sets.{has, set_of, Within};
 ghost use Rattle.sets.specs.Events.{lowered};
 ghost use Rattle.patterns.specs.Accepted.{Step, Accepted};
 ghost use Rattle.patterns.specs.Automaton.{read, root, states};
 ghost use Rattle.patterns.specs.Formed.{StateFree};
-ghost use Rattle.patterns.specs.Nothing.{nothing};
 ghost use Rattle.patterns.specs.Questions.{judged};
 ghost use Rattle.patterns.specs.Tables.{tables};
 ghost use Rattle.patterns.specs.Values.{value, values, back, backs};
@@ -16,17 +15,7 @@ use crate::over::Over;
 use crate::parts::{Checked, Parts};
 use crate::pattern::Pattern;
 use crate::questions::MAX_ROWS;
-use crate::row::{Operation, Row};
 use sets::{Event, States, add, holds};
-
-// The tables of the pattern that accepts nothing: one state, whose condition is never met.
-static NO_ROOTS: [u16; 1] = [0];
-
-static NO_ROWS: [Row; 1] = [Row {
-    operation: Operation::False as u8,
-    left: 0,
-    right: 0,
-}];
 
 impl<'a> Parts<'a> {
     // Whether the pattern in these parts accepts the events, or the first fault of the parts.
@@ -41,21 +30,18 @@ impl<'a> Parts<'a> {
 }
 
 impl<'a> Checked<'a> {
-    // The pattern in the checked parts. They are asked once more, since nothing but their making says that they were:
-    // tables that fail would give the pattern that accepts nothing, and `Parts::checked` lets none through.
+    // The pattern in the checked parts.
     pub fn seal(self) -> Pattern<'a>
-        ensures { automaton result ≡ (if is_some (judged (tables self.entry)) then nothing else tables self.entry) }
+        ensures { automaton result ≡ tables self.entry }
     {
-        Pattern {
-            parts: sound_or_nothing(self.parts),
-        }
+        Pattern { parts: self.parts }
     }
 }
 
 impl<'a> Pattern<'a> {
     // The states whose root row is 1 under the event and the set: exactly the sets within the answer have a step under
-    // the event to the set. A larger set is reached from at least as many states, a row free of states is worth the same under every set, and
-    // the event's bits from the number of signals up make no difference.
+    // the event to the set. A larger set is reached from at least as many states, a row free of states is worth the
+    // same under every set, and the event's bits from the number of signals up make no difference.
     pub fn back(&self, event: Event, states: States) -> States
         ensures value { result ≡ back (automaton self.now) event states }
         ensures steps { (c : ℕ) → (Step (automaton self.now) event c states → Within c result)
@@ -105,7 +91,8 @@ impl<'a> Pattern<'a> {
 
     // The states whose root row is 1, by the table of the rows' values.
     fn collect(&self, table: &[bool; MAX_ROWS]) -> States
-        ensures { result ≡ set_of (λ q. slice_index_or table.now (root (automaton self.now) q) false) (states (automaton self.now)) }
+        ensures { result ≡ set_of (λ q. slice_index_or table.now (root (automaton self.now) q) false)
+            (states (automaton self.now)) }
     {
         let mut found = 0;
         for (q, root) in self.parts.roots.iter().enumerate() {
@@ -114,21 +101,5 @@ impl<'a> Pattern<'a> {
             }
         }
         found
-    }
-}
-
-// The parts if they meet every question, otherwise those of the pattern that accepts nothing.
-fn sound_or_nothing(parts: Parts) -> Parts
-    ensures { read result ≡ (if is_some (judged (read parts.entry)) then nothing else read parts.entry) }
-{
-    match parts.check() {
-        Ok(()) => parts,
-        Err(_) => Parts {
-            signals: 0,
-            start: 0,
-            finals: 0,
-            roots: &NO_ROOTS,
-            rows: &NO_ROWS,
-        },
     }
 }
