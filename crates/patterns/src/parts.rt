@@ -1,9 +1,8 @@
 // The parts of a pattern as a caller lends them, whatever the tables hold, and the questions asked of them.
-ghost use Rattle.std.specs.Prelude.{◌≡◌, is_ok, Some, None, Decides, MatchResult};
+ghost use Rattle.std.specs.Prelude.{◌≡◌, false, is_some, is_ok, Some, None, Decides, MatchResult};
 ghost use Rattle.patterns.specs.Automaton.{read};
 ghost use Rattle.patterns.specs.Formed.{Formed};
 ghost use Rattle.patterns.specs.Questions.{judged};
-ghost use Rattle.patterns.specs.Tables.{tables};
 
 use crate::fault::Fault;
 use crate::questions::{check_roots, check_rows, is_ended, is_sized};
@@ -20,16 +19,21 @@ pub struct Parts<'a> {
     pub rows: &'a [Row],
 }
 
-// Parts that met every question when they were asked. They come only from `Parts::checked`.
+// Parts that meet every question. They come only from `Parts::checked`.
 #[derive(Clone, Copy)]
 pub struct Checked<'a> {
     pub(crate) parts: Parts<'a>,
+    ghost sound: { is_some (judged (read parts)) ≡ false },
 }
 
 impl<'a> Parts<'a> {
+    ghost use Rattle.patterns.specs.Tables.{tables};
+
     // Asks every question in order, and answers with the first fault. Nothing is written.
     pub fn check(self) -> Result<(), Fault>
-        ensures cases { MatchResult result (λ _. judged (read self.entry) ≡ None) (λ f. judged (read self.entry) ≡ Some f) }
+        ensures cases { MatchResult result
+            (λ _. judged (read self.entry) ≡ None)
+            (λ f. judged (read self.entry) ≡ Some f) }
         ensures formed { Decides (is_ok result) (Formed (read self.entry)) }
     {
         ask(self)
@@ -47,6 +51,7 @@ impl<'a> Parts<'a> {
 }
 
 // The questions in order: sizes, start and final states, roots, then row by row.
+#[tactic(auto, unfolding(crate::specs::Questions::judged))]
 fn ask(parts: Parts) -> Result<(), Fault>
     ensures { MatchResult result
         (λ _. judged (read parts.entry) ≡ None)
@@ -59,6 +64,5 @@ fn ask(parts: Parts) -> Result<(), Fault>
         return Err(Fault::Ends);
     }
     check_roots(parts.roots, parts.rows.len())?;
-    check_rows(parts.rows, parts.roots.len(), parts.signals)?;
-    Ok(())
+    check_rows(parts.rows, parts.roots.len(), parts.signals)
 }

@@ -1,5 +1,4 @@
-use Rattle.std.proofs.Common.{◌≡◌, ℕ, List, length, is_some, IfOk, string_bytes, ap, ◌∙◌, subst}
-use Rattle.std.proofs.lemmas.Bool.{cond-false}
+use Rattle.std.proofs.Common.{◌≡◌, ℕ, List, length, IfOk, string_bytes, ap, ◌∙◌, subst}
 use Rattle.blocks.specs.Layout.{payload}
 use Rattle.files.specs.Layout.{decoded}
 use Rattle.files.proofs.Ordering.{sound}
@@ -27,7 +26,7 @@ returns-in-Ok-checked c =
     let e : read c.parts.result ≡ decoded p = c.parts.ensures
     ∙ read_tables p c.args.roots.now c.read_pattern.new.roots c.args.rows.now c.read_pattern.new.rows c.in-Ok.heading h.roots h.rows h.cases.1 in
     let k = c.in-Ok-checked.ensures in
-    let q : single_pattern c.new.result ≡ decoded p = c.new.ensures.value ∙ c.seal.ensures ∙ cond-false _ _ _ (ap is_some k.1) ∙ k.0 ∙ e in
+    let q : single_pattern c.new.result ≡ decoded p = c.new.ensures.value ∙ c.seal.ensures ∙ k.0 ∙ e in
     subst (λ (text : List ℕ). IfOk c.judge_pattern.result (λ s. string_bytes s ≡ text))
     (judged_text file (length c.args.roots.now) (length c.args.rows.now) c.requires.roots c.requires.rows h.cases.0 (single_pattern c.new.result) q)
     c.judge_pattern.ensures

@@ -1,4 +1,5 @@
-use Rattle.std.proofs.Common.{ap, ◌∙◌}
+use Rattle.std.proofs.Common.{sym, ap, ◌∙◌}
+use Rattle.std.proofs.lemmas.Bool.{cond-false}
 use Rattle.patterns.specs.Automaton.{Automaton}
 use Rattle.patterns.proofs.Forming as patterns
 use Rattle.models.proofs.Forming as models
@@ -11,9 +12,10 @@ use Rattle.joint_kinds.proofs.parts.CheckedJoint.seal.Goals as goal
 pub returns : goal.returns
 returns c =
     let j = c.join.result in
+    let e = c.seal.ensures ∙ sym (cond-false _ _ _ c.args.self.pattern.sound) in
     record {
-      pattern = c.join.ensures.pattern ∙ c.seal.ensures;
-      model = c.join.ensures.model ∙ ap (λ (A : Automaton). sound_model A.signals (checked_model c.args.self)) c.seal.ensures;
+      pattern = c.join.ensures.pattern ∙ e;
+      model = c.join.ensures.model ∙ ap (λ (A : Automaton). sound_model A.signals (checked_model c.args.self)) e;
       accepted = joint_acceptance (joint_pattern j) (joint_model j)
           (patterns.formed (joint_pattern j) j.pattern.formed) (models.formed (joint_pattern j).signals (joint_model j) j.formed);
     }
