@@ -14,20 +14,21 @@ use Rattle.models.specs.Machine.{Machine}
 use Rattle.kinds.specs.Shape.{Shape}
 use Rattle.kind_shapes.specs.declared.JointConfig.{JointConfig}
 use Rattle.kind_shapes.specs.Shapes.{pattern_shape, joint_shape}
+use Rattle.joint_kinds.specs.Language.{Together}
 use Rattle.search.specs.declared.Find.{Find}
 use Rattle.checks.specs.declared.states.Progress.{Progress}
 use Rattle.checks.specs.View.{view}
 use Rattle.scripts.specs.declared.Step.{Step}
 use Rattle.scripts.specs.Scripts.{granted, Ran}
-use Rattle.verdicts.specs.Promises.{EventPromise, Together}
+use Rattle.verdicts.specs.Promises.{EventPromise}
 
 pub record EventRan {C : Type 0} (s : Shape C) (m : ℕ) (L : List ℕ → Type 0) (t : List (Find C)) (xs : List (Step C)) (p : Progress) (t' : List (Find C)) (h : List C) (l : ℕ) (ys : List (Step C)) : Type 0 where
   pub ran : Ran s t xs p t' h l ys
   pub promise : EventPromise s m L (length t) (granted xs) (view p t' h)
 
 module _ (A : Automaton) where
-  abbrev pub PatternRan : (t : List (Find ℕ)) (xs : List (Step ℕ)) (p : Progress) (t' : List (Find ℕ)) (h : List ℕ) (l : ℕ) (ys : List (Step ℕ)) → Type 0
+  abbrev pub PatternRan : List (Find ℕ) → List (Step ℕ) → Progress → List (Find ℕ) → List ℕ → ℕ → List (Step ℕ) → Type 0
   PatternRan = EventRan (pattern_shape A) A.signals (Accepted A)
 
-  abbrev pub JointRan : (M : Machine) (t : List (Find JointConfig)) (xs : List (Step JointConfig)) (p : Progress) (t' : List (Find JointConfig)) (h : List JointConfig) (l : ℕ) (ys : List (Step JointConfig)) → Type 0
+  abbrev pub JointRan : Machine → List (Find JointConfig) → List (Step JointConfig) → Progress → List (Find JointConfig) → List JointConfig → ℕ → List (Step JointConfig) → Type 0
   JointRan M = EventRan (joint_shape A M) A.signals (Together A M)

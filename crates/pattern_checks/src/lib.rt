@@ -1,5 +1,5 @@
-// A check on a kind whose language is known: what a script of calls leaves, in the words of sequences of events. So too
-// on a pattern, and on a pattern with a model.
+// A check on a pattern, and on a pattern with a model: what a script of calls leaves, in the words of sequences of
+// events.
 #![tactic(auto)]
 
 ghost use Rattle.std.specs.Prelude.{◌≡◌, length, Some, None, MatchResult};
@@ -20,27 +20,12 @@ use search::Find;
 use sets::States;
 use stores::Store;
 
-// Opens a check on the kind and makes the calls of the script on it. What it leaves and what each call answered is
-// that of the defined search, and for every script and every store: at MATCHES the sequence is in the kind's language,
-// and none with fewer events is; at NEVER the inspector passes the certificate, and the language is empty; otherwise
-// every sequence in it is longer than the cleared length; and enough grants bring a verdict.
-pub fn run_events<K: Language, S: Store<K>>(
-    kind: &K,
-    table: &mut [Find<K::Config>],
-    store: &mut S,
-    script: &mut [Step<K::Config>],
-) -> Result<Progress, Refused>
-    ensures cases { MatchResult result
-        (λ p. (open_refusal (K.shape kind.now) (length table.old) (S.held store.old) (S.limit store.old) ≡ None)
-        × EventRan (K.shape kind.now) (K.signals kind.now) (K.accepts kind.now) table.old script.old p table.new (S.held store.new) (S.limit store.new) script.new)
-        (λ e. (open_refusal (K.shape kind.now) (length table.old) (S.held store.old) (S.limit store.old) ≡ Some e)
-        × (table.new ≡ table.old) × (store.new ≡ store.old) × (script.new ≡ script.old)) }
-    ensures limit { S.limit store.new ≡ S.limit store.old }
-{
-    run(kind, table, store, script)
-}
-
-// The same on a pattern: the language is what it accepts.
+// Opens a check on the pattern and makes the calls of the script on it. What it leaves and what each call answered is
+// that of the defined search, and for every script and every store: at MATCHES the pattern accepts the sequence, and
+// accepts none with fewer events; at NEVER the inspector passes the certificate, and the pattern accepts nothing;
+// otherwise every sequence that it accepts is longer than the cleared length; and enough grants bring a verdict.
+//
+// Stays: a call of its own for each kind, whose contract names the pattern, or the pattern and the model.
 pub fn run_pattern<'a, S: Store<Single<'a>>>(
     pattern: &Single<'a>,
     table: &mut [Find<States>],
@@ -57,7 +42,7 @@ pub fn run_pattern<'a, S: Store<Single<'a>>>(
     run_events(pattern, table, store, script)
 }
 
-// The same on a pattern with a model: what the pattern accepts and the model sends.
+// The same on a pattern with a model: sequences that the pattern accepts and the model sends.
 pub fn run_joint<'a, S: Store<Joint<'a>>>(
     joint: &Joint<'a>,
     table: &mut [Find<JointConfig>],
@@ -72,4 +57,21 @@ pub fn run_joint<'a, S: Store<Joint<'a>>>(
     ensures limit { S.limit store.new ≡ S.limit store.old }
 {
     run_events(joint, table, store, script)
+}
+
+// Makes the calls of the script on a check of any kind whose language is known.
+fn run_events<K: Language, S: Store<K>>(
+    kind: &K,
+    table: &mut [Find<K::Config>],
+    store: &mut S,
+    script: &mut [Step<K::Config>],
+) -> Result<Progress, Refused>
+    ensures cases { MatchResult result
+        (λ p. (open_refusal (K.shape kind.now) (length table.old) (S.held store.old) (S.limit store.old) ≡ None)
+        × EventRan (K.shape kind.now) (K.signals kind.now) (K.accepts kind.now) table.old script.old p table.new (S.held store.new) (S.limit store.new) script.new)
+        (λ e. (open_refusal (K.shape kind.now) (length table.old) (S.held store.old) (S.limit store.old) ≡ Some e)
+        × (table.new ≡ table.old) × (store.new ≡ store.old) × (script.new ≡ script.old)) }
+    ensures limit { S.limit store.new ≡ S.limit store.old }
+{
+    run(kind, table, store, script)
 }

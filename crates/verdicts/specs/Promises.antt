@@ -12,19 +12,19 @@
 -- PatternKeeps A             the theorems for it
 -- PatternSearches A
 --
--- Together A M               the sequences that the pattern A accepts and the model M sends
--- JointPromise A M r q t     what is promised of the pattern A with the model M, of which they are L
+-- JointPromise A M r q t     what is promised of the pattern A with the model M, of which L is what the one accepts and
+--                            the other sends
 -- JointKeeps A M             the theorems for it
 -- JointSearches A M
 use Rattle.std.specs.Prelude.{◌≡◌, ℕ, ◌-◌, ◌*◌, ◌<◌, ◌≤◌, true, List, length, is_some, Some, Ok}
 use Rattle.patterns.specs.Automaton.{Automaton}
 use Rattle.patterns.specs.Accepted.{Accepted}
 use Rattle.models.specs.Machine.{Machine}
-use Rattle.models.specs.Sent.{Sends}
 use Rattle.kinds.specs.Shape.{Shape}
 use Rattle.kind_shapes.specs.declared.JointConfig.{JointConfig}
 use Rattle.kind_shapes.specs.Shapes.{pattern_shape, joint_shape}
 use Rattle.kind_shapes.specs.Acceptance.{Plain}
+use Rattle.joint_kinds.specs.Language.{Together}
 use Rattle.inspector.specs.declared.answers.Inspection.TheVariants.{Passed}
 use Rattle.inspector.specs.Inspected.{inspected}
 use Rattle.search.specs.declared.Verdict.TheVariants.{Matches, Never}
@@ -56,7 +56,7 @@ module _ {C : Type 0} (s : Shape C) (m : ℕ) (L : List ℕ → Type 0) where
   EventSearches = (r q : ℕ) → Admits s r → EventPromise r q (after s r q)
 
 module _ (A : Automaton) where
-  abbrev pub PatternPromise : (r q : ℕ) → State ℕ → Type 0
+  abbrev pub PatternPromise : ℕ → ℕ → State ℕ → Type 0
   PatternPromise = EventPromise (pattern_shape A) A.signals (Accepted A)
 
   abbrev pub PatternKeeps : Type 0
@@ -66,14 +66,11 @@ module _ (A : Automaton) where
   PatternSearches = EventSearches (pattern_shape A) A.signals (Accepted A)
 
 module _ (A : Automaton) (M : Machine) where
-  abbrev pub Together : List ℕ → Type 0
-  Together es = Accepted A es × Sends M es
-
-  abbrev pub JointPromise : (r q : ℕ) → State JointConfig → Type 0
-  JointPromise = EventPromise (joint_shape A M) A.signals Together
+  abbrev pub JointPromise : ℕ → ℕ → State JointConfig → Type 0
+  JointPromise = EventPromise (joint_shape A M) A.signals (Together A M)
 
   abbrev pub JointKeeps : Type 0
-  JointKeeps = EventKeeps (joint_shape A M) A.signals Together
+  JointKeeps = EventKeeps (joint_shape A M) A.signals (Together A M)
 
   abbrev pub JointSearches : Type 0
-  JointSearches = EventSearches (joint_shape A M) A.signals Together
+  JointSearches = EventSearches (joint_shape A M) A.signals (Together A M)
