@@ -26,9 +26,8 @@ pub record EventRan {C : Type 0} (s : Shape C) (m : ℕ) (L : List ℕ → Type 
   pub ran : Ran s t xs p t' h l ys
   pub promise : EventPromise s m L (length t) (granted xs) (view p t' h)
 
-module _ (A : Automaton) where
-  abbrev pub PatternRan : List (Find ℕ) → List (Step ℕ) → Progress → List (Find ℕ) → List ℕ → ℕ → List (Step ℕ) → Type 0
-  PatternRan = EventRan (pattern_shape A) A.signals (Accepted A)
+abbrev pub PatternRan : Automaton → List (Find ℕ) → List (Step ℕ) → Progress → List (Find ℕ) → List ℕ → ℕ → List (Step ℕ) → Type 0
+PatternRan A = EventRan (pattern_shape A) A.signals (Accepted A)
 
-  abbrev pub JointRan : Machine → List (Find JointConfig) → List (Step JointConfig) → Progress → List (Find JointConfig) → List JointConfig → ℕ → List (Step JointConfig) → Type 0
-  JointRan M = EventRan (joint_shape A M) A.signals (Together A M)
+abbrev pub JointRan : Automaton → Machine → List (Find JointConfig) → List (Step JointConfig) → Progress → List (Find JointConfig) → List JointConfig → ℕ → List (Step JointConfig) → Type 0
+JointRan A M = EventRan (joint_shape A M) A.signals (Together A M)

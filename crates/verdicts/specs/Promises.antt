@@ -8,14 +8,12 @@
 -- EventKeeps s m L           the theorem: where a search for s keeps what searches of every kind promise, it keeps this
 -- EventSearches s m L        the theorem: every state of every search for s keeps it, over every table that is admitted
 --
--- PatternPromise A r q t     what is promised of the pattern A, of which L is what it accepts
--- PatternKeeps A             the theorems for it
--- PatternSearches A
---
--- JointPromise A M r q t     what is promised of the pattern A with the model M, of which L is what the one accepts and
---                            the other sends
--- JointKeeps A M             the theorems for it
--- JointSearches A M
+-- PatternPromise A r q t     what is promised of the pattern A: its language is what it accepts
+-- JointPromise A M r q t     what is promised of the pattern A with the model M: what the one accepts and the other sends
+-- PatternKeeps A             the theorem: where a search for A keeps what searches of every kind promise, it keeps this
+-- JointKeeps A M             the same for the pattern A with the model M
+-- PatternSearches A          the theorem: every state of every search for A keeps it, over every table that is admitted
+-- JointSearches A M          the same for the pattern A with the model M
 use Rattle.std.specs.Prelude.{◌≡◌, ℕ, ◌-◌, ◌*◌, ◌<◌, ◌≤◌, true, List, length, is_some, Some, Ok}
 use Rattle.patterns.specs.Automaton.{Automaton}
 use Rattle.patterns.specs.Accepted.{Accepted}
@@ -55,22 +53,20 @@ module _ {C : Type 0} (s : Shape C) (m : ℕ) (L : List ℕ → Type 0) where
   abbrev pub EventSearches : Type 0
   EventSearches = (r q : ℕ) → Admits s r → EventPromise r q (after s r q)
 
-module _ (A : Automaton) where
-  abbrev pub PatternPromise : ℕ → ℕ → State ℕ → Type 0
-  PatternPromise = EventPromise (pattern_shape A) A.signals (Accepted A)
+abbrev pub PatternPromise : Automaton → ℕ → ℕ → State ℕ → Type 0
+PatternPromise A r q t = EventPromise (pattern_shape A) A.signals (Accepted A) r q t
 
-  abbrev pub PatternKeeps : Type 0
-  PatternKeeps = EventKeeps (pattern_shape A) A.signals (Accepted A)
+abbrev pub JointPromise : Automaton → Machine → ℕ → ℕ → State JointConfig → Type 0
+JointPromise A M r q t = EventPromise (joint_shape A M) A.signals (Together A M) r q t
 
-  abbrev pub PatternSearches : Type 0
-  PatternSearches = EventSearches (pattern_shape A) A.signals (Accepted A)
+abbrev pub PatternKeeps : Automaton → Type 0
+PatternKeeps A = (r q : ℕ) (t : State ℕ) → Promise (pattern_shape A) r q t → PatternPromise A r q t
 
-module _ (A : Automaton) (M : Machine) where
-  abbrev pub JointPromise : ℕ → ℕ → State JointConfig → Type 0
-  JointPromise = EventPromise (joint_shape A M) A.signals (Together A M)
+abbrev pub JointKeeps : Automaton → Machine → Type 0
+JointKeeps A M = (r q : ℕ) (t : State JointConfig) → Promise (joint_shape A M) r q t → JointPromise A M r q t
 
-  abbrev pub JointKeeps : Type 0
-  JointKeeps = EventKeeps (joint_shape A M) A.signals (Together A M)
+abbrev pub PatternSearches : Automaton → Type 0
+PatternSearches A = (r q : ℕ) → Admits (pattern_shape A) r → PatternPromise A r q (after (pattern_shape A) r q)
 
-  abbrev pub JointSearches : Type 0
-  JointSearches = EventSearches (joint_shape A M) A.signals (Together A M)
+abbrev pub JointSearches : Automaton → Machine → Type 0
+JointSearches A M = (r q : ℕ) → Admits (joint_shape A M) r → JointPromise A M r q (after (joint_shape A M) r q)
