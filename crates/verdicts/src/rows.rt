@@ -23,6 +23,8 @@ pub fn event_rows<K: Language>(kind: &K, rows: usize) -> bool
 }
 
 // The same of a pattern, and `PatternPromise`.
+//
+// Stays: a call of its own for each kind, whose contract names the pattern, or the pattern and the model.
 pub fn pattern_rows(pattern: &Single, rows: usize) -> bool
     ensures test { Decides result (Admits (pattern_shape (single_pattern pattern.now)) rows) }
     ensures keeps_promise { PatternKeeps (single_pattern pattern.now) }
