@@ -3,3 +3,4 @@ pub mod Questions
 pub mod Tables
 pub mod Sound
 pub mod JointKind
+pub mod Language

@@ -3,5 +3,6 @@
 
 pub mod fault;
 pub mod joint;
+mod language;
 mod members;
 pub mod parts;

@@ -1,5 +1,6 @@
 pub mod Shape
 pub mod Laws
 pub mod Accepted
+pub mod Language
 pub mod Certificate
 pub mod Earliest

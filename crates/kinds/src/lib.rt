@@ -10,6 +10,8 @@ ghost use Rattle.kinds.specs.Earliest.{Earliest};
 
 use sets::Event;
 
+pub mod language;
+
 // The number of a move.
 pub type Move = u64;
 

@@ -7,13 +7,13 @@ ghost use Rattle.kind_shapes.specs.Shapes.{pattern_shape, joint_shape};
 ghost use Rattle.pattern_kinds.specs.PatternKind.{single_pattern};
 ghost use Rattle.joint_kinds.specs.JointKind.{joint_pattern, joint_model};
 ghost use Rattle.checks.specs.Questions.{open_refusal};
-ghost use Rattle.scripts.specs.Scripts.{Ran};
-ghost use Rattle.pattern_checks.specs.Runs.{PatternRan, JointRan};
+ghost use Rattle.pattern_checks.specs.Runs.{EventRan, PatternRan, JointRan};
 
 use checks::states::Progress;
 use finds::refusals::Refused;
 use joint_kinds::joint::Joint;
 use kind_shapes::JointConfig;
+use kinds::language::Language;
 use pattern_kinds::pattern::Single;
 use scripts::{Step, run};
 use search::Find;
@@ -24,6 +24,8 @@ use stores::Store;
 // that of the defined search, and for every script and every store: at MATCHES the pattern accepts the sequence, and
 // accepts none with fewer events; at NEVER the inspector passes the certificate, and the pattern accepts nothing;
 // otherwise every sequence that it accepts is longer than the cleared length; and enough grants bring a verdict.
+//
+// Stays: a call of its own for each kind, whose contract names the pattern, or the pattern and the model.
 pub fn run_pattern<'a, S: Store<Single<'a>>>(
     pattern: &Single<'a>,
     table: &mut [Find<States>],
@@ -37,7 +39,7 @@ pub fn run_pattern<'a, S: Store<Single<'a>>>(
         × (table.new ≡ table.old) × (store.new ≡ store.old) × (script.new ≡ script.old)) }
     ensures limit { S.limit store.new ≡ S.limit store.old }
 {
-    run_alone(pattern, table, store, script)
+    run_events(pattern, table, store, script)
 }
 
 // The same on a pattern with a model: sequences that the pattern accepts and the model sends.
@@ -54,39 +56,22 @@ pub fn run_joint<'a, S: Store<Joint<'a>>>(
         × (table.new ≡ table.old) × (store.new ≡ store.old) × (script.new ≡ script.old)) }
     ensures limit { S.limit store.new ≡ S.limit store.old }
 {
-    run_together(joint, table, store, script)
+    run_events(joint, table, store, script)
 }
 
-// Makes the calls of the script on a check of the pattern kind.
-fn run_alone<'a, S: Store<Single<'a>>>(
-    pattern: &Single<'a>,
-    table: &mut [Find<States>],
+// Makes the calls of the script on a check of any kind whose language is known.
+fn run_events<K: Language, S: Store<K>>(
+    kind: &K,
+    table: &mut [Find<K::Config>],
     store: &mut S,
-    script: &mut [Step<States>],
+    script: &mut [Step<K::Config>],
 ) -> Result<Progress, Refused>
     ensures cases { MatchResult result
-        (λ p. (open_refusal (pattern_shape (single_pattern pattern.now)) (length table.old) (S.held store.old) (S.limit store.old) ≡ None)
-        × Ran (pattern_shape (single_pattern pattern.now)) table.old script.old p table.new (S.held store.new) (S.limit store.new) script.new)
-        (λ e. (open_refusal (pattern_shape (single_pattern pattern.now)) (length table.old) (S.held store.old) (S.limit store.old) ≡ Some e)
+        (λ p. (open_refusal (K.shape kind.now) (length table.old) (S.held store.old) (S.limit store.old) ≡ None)
+        × EventRan (K.shape kind.now) (K.signals kind.now) (K.accepts kind.now) table.old script.old p table.new (S.held store.new) (S.limit store.new) script.new)
+        (λ e. (open_refusal (K.shape kind.now) (length table.old) (S.held store.old) (S.limit store.old) ≡ Some e)
         × (table.new ≡ table.old) × (store.new ≡ store.old) × (script.new ≡ script.old)) }
     ensures limit { S.limit store.new ≡ S.limit store.old }
 {
-    run(pattern, table, store, script)
-}
-
-// Makes the calls of the script on a check of the joint kind.
-fn run_together<'a, S: Store<Joint<'a>>>(
-    joint: &Joint<'a>,
-    table: &mut [Find<JointConfig>],
-    store: &mut S,
-    script: &mut [Step<JointConfig>],
-) -> Result<Progress, Refused>
-    ensures cases { MatchResult result
-        (λ p. (open_refusal (joint_shape (joint_pattern joint.now) (joint_model joint.now)) (length table.old) (S.held store.old) (S.limit store.old) ≡ None)
-        × Ran (joint_shape (joint_pattern joint.now) (joint_model joint.now)) table.old script.old p table.new (S.held store.new) (S.limit store.new) script.new)
-        (λ e. (open_refusal (joint_shape (joint_pattern joint.now) (joint_model joint.now)) (length table.old) (S.held store.old) (S.limit store.old) ≡ Some e)
-        × (table.new ≡ table.old) × (store.new ≡ store.old) × (script.new ≡ script.old)) }
-    ensures limit { S.limit store.new ≡ S.limit store.old }
-{
-    run(joint, table, store, script)
+    run(kind, table, store, script)
 }

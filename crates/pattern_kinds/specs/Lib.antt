@@ -1,1 +1,2 @@
 pub mod PatternKind
+pub mod Language

@@ -33,12 +33,6 @@ pub fn stuck() -> Parts<'static>
     ensures value { read result ≡ stuck }
     ensures worked { Worked }
 {
-    stuck_tables()
-}
-
-fn stuck_tables() -> Parts<'static>
-    ensures { read result ≡ stuck }
-{
     Parts {
         signals: 1,
         start: 0,

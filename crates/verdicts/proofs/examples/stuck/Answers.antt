@@ -44,5 +44,5 @@ worked =
       stuck_never = (searches stuck (formed stuck refl) 1 1 one).never refl;
     }
 
-pub returns : goal.returns
-returns c = record { value = c.stuck_tables.ensures; worked = worked }
+pub returns-clause-worked : goal.returns-clause-worked
+returns-clause-worked c = worked
