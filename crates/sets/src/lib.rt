@@ -22,7 +22,8 @@ pub fn holds(set: States, member: usize) -> bool
 
 // Whether every member of `set` is in `other`.
 pub fn is_within(set: States, other: States) -> bool
-    ensures { Decides result (Within set other) }
+    ensures value { result ≡ (bit_and set other == set) }
+    ensures members { Decides result (Within set other) }
 {
     meet(set, other) == set
 }
