@@ -1,4 +1,3 @@
 pub mod Refusals
 pub mod Inspected
-pub mod Searches
 pub mod Meaning

@@ -5,6 +5,7 @@ ghost use Rattle.inspector.specs.Refusals.{number_and_place};
 use kinds::Move;
 
 // What an inspection found.
+// Stays: an Option of a flaw would nest in the Result of `inspect`, where a list that passes would be `Ok(None)`.
 #[derive(Clone, Copy, PartialEq, Eq, Debug)]
 pub enum Inspection {
     // PASS: the list is a certificate, so no list of moves is accepted.

@@ -9,27 +9,12 @@ use sets::{States, holds};
 pub(crate) fn member_count(set: States, limit: u8) -> usize
     ensures { result ≡ length (members set limit) }
 {
-    let mut count: usize = 0;
-    for q in 0..limit {
-        if holds(set, q as usize) {
-            count += 1;
-        }
-    }
-    count
+    (0..limit).filter(|q| holds(set, usize::from(*q))).count()
 }
 
 // The member below the limit that has number i, counted from 0, and none where there are no more than i.
 pub(crate) fn member(set: States, limit: u8, i: usize) -> Option<u8>
     ensures { result ≡ slice_get (members set limit) i }
 {
-    let mut before: usize = 0;
-    for q in 0..limit {
-        if holds(set, q as usize) {
-            if before == i {
-                return Some(q);
-            }
-            before += 1;
-        }
-    }
-    None
+    (0..limit).filter(|q| holds(set, usize::from(*q))).nth(i)
 }

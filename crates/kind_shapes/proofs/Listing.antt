@@ -1,10 +1,10 @@
 -- The members of a set, listed in ascending order: each is listed, and nothing else.
-use Rattle.std.proofs.Common.{◌≡◌, ℕ, zero, suc, ◌+◌, ◌<◌, ◌≤◌, Bool, true, false, cond, ◌⊎◌, List, [], ◌∷◌, ◌++◌, length, Some, refl, ap, ◌∙◌, subst, inl, inr, ⊎_elim, add-one, arith}
-use Rattle.std.specs.List.{slice_get}
+use Rattle.std.proofs.Common.{◌≡◌, ℕ, zero, suc, ◌+◌, ◌<◌, ◌≤◌, Bool, true, false, cond, ◌⊎◌, List, [], ◌∷◌, ◌++◌, length, Some, refl, sym, ap, ◌∙◌, subst, inl, inr, ⊎_elim, add-one, append_assoc, arith}
+use Rattle.std.specs.List.{slice_get, filter, range_with_len}
 use Rattle.std.proofs.lemmas.Option.{slice_get_within}
 use Rattle.kinds.proofs.Lists.{nth_left, nth_seam}
-use Rattle.std.proofs.lemmas.List.{length-append, append-nil}
-use Rattle.std.proofs.lemmas.Bool.{cases_eq}
+use Rattle.std.proofs.lemmas.List.{append-nil}
+use Rattle.std.proofs.lemmas.Bool.{cases_Bool, cases_eq, cond-true, cond-false}
 use Rattle.sets.specs.Sets.{has}
 use Rattle.kinds.proofs.Values.{none_some}
 use Rattle.kind_shapes.specs.Shapes.{members}
@@ -58,11 +58,21 @@ module _ (c : ℕ) where
       (λ (last : (has c n ≡ true) × (q ≡ n)). (omega (arith, last.1), ap (has c) last.1 ∙ last.0))
       (last_or_before (members c n) (has c n) n i q e)
 
-  -- how many are listed
-  pub count_more : (n : ℕ) → has c n ≡ true → length (members c (n + 1)) ≡ length (members c n) + 1
-  count_more n e =
-      ap (λ (k : ℕ). length (members c k)) (add-one n)
-      ∙ ap (λ (xs : List ℕ). length xs) (members_more n e) ∙ length-append (members c n) (n ∷ [])
+  -- to list the members is to keep of the numbers those that the set holds
+  listed_from : (a n : ℕ) → members c (a + n) ≡ members c a ++ filter (has c) (range_with_len a n)
+  listed_from a zero = let z : a + 0 ≡ a = omega arith in ap (members c) z ∙ sym (append-nil (members c a))
+  listed_from a (suc n) =
+      let rest = filter (has c) (range_with_len (a + 1) n) in
+      let e : a + suc n ≡ a + 1 + n = omega arith in
+      let next : members c (a + suc n) ≡ members c (suc a) ++ rest =
+      ap (members c) e ∙ listed_from (a + 1) n ∙ ap (λ (k : ℕ). members c k ++ rest) (add-one a) in
+      ⊎_elim
+          (λ (t : has c a ≡ true). next ∙ ap (λ (xs : List ℕ). xs ++ rest) (members_more a t) ∙ append_assoc (members c a) (a ∷ []) rest
+          ∙ ap (λ (xs : List ℕ). members c a ++ xs) (sym (cond-true (has c a) (a ∷ rest) rest t)))
+          (λ (t : has c a ≡ false). next ∙ ap (λ (xs : List ℕ). xs ++ rest) (members_skip a t)
+          ∙ ap (λ (xs : List ℕ). members c a ++ xs) (sym (cond-false (has c a) (a ∷ rest) rest t)))
+          (cases_Bool (has c a))
 
-  pub count_skip : (n : ℕ) → has c n ≡ false → length (members c (n + 1)) ≡ length (members c n)
-  count_skip n e = ap (λ (k : ℕ). length (members c k)) (add-one n) ∙ ap (λ (xs : List ℕ). length xs) (members_skip n e)
+  pub listed : (n : ℕ) → filter (has c) (range_with_len 0 n) ≡ members c n
+  unfolding members
+  listed n = let z : 0 + n ≡ n = omega arith in sym (listed_from 0 n) ∙ ap (members c) z

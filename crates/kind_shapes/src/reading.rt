@@ -1,6 +1,5 @@
 // What both kinds read of a pattern.
 ghost use Rattle.std.specs.Prelude.{◌≡◌, ◌/◌, ◌%◌, ◌^◌, ◌<◌, ◌≤◌};
-ghost use Rattle.kind_shapes.specs.Shapes.{subset};
 ghost use Rattle.patterns.specs.Automaton.{states};
 ghost use Rattle.patterns.specs.Values.{back};
 ghost use Rattle.patterns.specs.View.{automaton};
@@ -20,7 +19,7 @@ pub fn state_count(pattern: &Pattern) -> usize
 pub fn start_of(pattern: &Pattern) -> usize
     ensures { result ≡ (automaton pattern.now).start }
 {
-    pattern.parts().start as usize
+    usize::from(pattern.parts().start)
 }
 
 // The final states.
@@ -57,13 +56,6 @@ pub fn predecessors(pattern: &Pattern, event: Event, set: States) -> States
     ensures { result ≡ back (automaton pattern.now) event set }
 {
     pattern.back(event, set)
-}
-
-// Whether every member of `set` is in `other`, as a test on the two numbers.
-pub fn is_subset(set: States, other: States) -> bool
-    ensures { result ≡ subset set other }
-{
-    set & other == set
 }
 
 // How many signals the pattern has: no more than an event has bits.

@@ -1,14 +1,10 @@
 -- What a list covers: by its entries, and by two lists joined. Assumes nothing.
-use Rattle.std.proofs.Common.{◌≡◌, ℕ, zero, suc, Bool, true, false, ◌||◌, List, [], ◌∷◌, ◌++◌, length, is_some, Some, None, Decides, Option, sym, refl, ap, ◌∙◌, inl, inr}
-use Rattle.std.specs.List.{slice_get}
-use Rattle.std.proofs.lemmas.Option.{slice_get_within}
-use Rattle.std.proofs.lemmas.Bool.{both_ways, false≢true, or_cases, or_left, or_right}
+use Rattle.std.proofs.Common.{◌≡◌, ℕ, zero, suc, Bool, true, false, ◌||◌, List, [], ◌∷◌, ◌++◌, Some, Decides, refl, ap, ◌∙◌, inl, inr}
+use Rattle.std.specs.List.{slice_get, list_any}
+use Rattle.std.proofs.lemmas.Bool.{false≢true, or_cases, or_left, or_right}
 use Rattle.kinds.specs.Shape.{Shape}
 use Rattle.kinds.specs.Laws.{Laws}
-use Rattle.kinds.specs.Earliest.{Earliest}
 use Rattle.kinds.specs.Certificate.{covered, CoveringEntry}
-use Rattle.kinds.proofs.Values.{false_if_not_true}
-use Rattle.kinds.proofs.Searches.{hit, missed}
 
 -- joining is associative
 or_assoc : (x y z : Bool) → (x || (y || z)) ≡ ((x || y) || z)
@@ -50,10 +46,7 @@ module _ {C : Type 0} (s : Shape C) where
       entry_covers xs e.place x e.entry e.there
       (laws.transitive x y e.entry fx fy (fit e.place e.entry e.there) w e.covers)
 
-  -- a search for an entry that covers x finds one exactly if the list covers x
-  pub found_covered : (xs : List C) (x : C) (r : Option ℕ) → Earliest (s.within x) true xs r → is_some r ≡ covered s xs x
-  found_covered xs x None h = sym (false_if_not_true (covered s xs x) (λ t.
-      let e = covering_entry xs x t in
-      let l = slice_get_within xs e.place e.entry e.there in
-      both_ways (s.within x e.entry) (missed (s.within x) true xs (length xs) h e.place e.entry l e.there) e.covers))
-  found_covered xs x (Some i) h = let e = hit (s.within x) true xs i h.0 h.1 in sym (entry_covers xs i x e.0 e.1 e.2)
+  -- to ask each entry whether it covers x is to ask whether the list does
+  pub any_covers : (xs : List C) (x : C) → list_any (s.within x) xs ≡ covered s xs x
+  any_covers [] x = refl
+  any_covers (y ∷ ys) x = ap (λ b. s.within x y || b) (any_covers ys x)

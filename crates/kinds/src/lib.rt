@@ -1,12 +1,11 @@
 // The interface of a kind, and whether a list of configurations covers one.
 #![tactic(auto)]
 
-ghost use Rattle.std.specs.Prelude.{◌≡◌, true, length, Decides};
-ghost use Rattle.std.specs.List.{slice_get};
+ghost use Rattle.std.specs.Prelude.{◌≡◌, length, Decides};
+ghost use Rattle.std.specs.List.{slice_get, list_any};
 ghost use Rattle.kinds.specs.Shape.{Shape};
 ghost use Rattle.kinds.specs.Laws.{Laws};
 ghost use Rattle.kinds.specs.Certificate.{covered, CoveringEntry};
-ghost use Rattle.kinds.specs.Earliest.{Earliest};
 
 use sets::Event;
 
@@ -79,17 +78,12 @@ pub fn covers<K: Kind>(kind: &K, list: &[K::Config], x: K::Config) -> bool
     ensures value { result ≡ covered (K.shape kind.now) list.now x }
     ensures test { Decides result (CoveringEntry (K.shape kind.now) list.now x) }
 {
-    covering_entry(kind, list, x).is_some()
+    some_covers(kind, list, x)
 }
 
-// The least entry of the list that covers x.
-fn covering_entry<K: Kind>(kind: &K, list: &[K::Config], x: K::Config) -> Option<usize>
-    ensures { Earliest ((K.shape kind.now).within x) true list.now result }
+// Asks each entry in turn whether it covers x.
+fn some_covers<K: Kind>(kind: &K, list: &[K::Config], x: K::Config) -> bool
+    ensures { result ≡ list_any (λ y. (K.shape kind.now).within x y) list.now }
 {
-    for (i, y) in list.iter().enumerate() {
-        if kind.within(x, *y) {
-            return Some(i);
-        }
-    }
-    None
+    list.iter().any(|y| kind.within(x, *y))
 }

@@ -1,5 +1,8 @@
 -- Working back from the end states finds exactly what is sent, and only bits below m count.
-use Rattle.std.proofs.Common.{◌≡◌, ℕ, ◌<◌, true, List, [], ◌∷◌, length, Decides, sym, ◌∙◌, arith}
+use Rattle.std.proofs.Common.{◌≡◌, ℕ, ◌<◌, true, List, [], ◌∷◌, length, reverse, Decides, sym, refl, ap, ◌∙◌, arith}
+use mathlib.Core.List.{reverse-cons}
+use Rattle.std.specs.List.{fold}
+use Rattle.std.proofs.lemmas.List.Sums.{fold_push}
 use Rattle.sets.specs.Sets.{has}
 use Rattle.models.specs.Machine.{Machine, arrow}
 use Rattle.models.specs.Formed.{Formed}
@@ -13,6 +16,13 @@ use Rattle.models.proofs.Stepping.{led, leads_back}
 abbrev pub worked : Machine → List ℕ → ℕ → ℕ
 worked M [] d = d
 worked M (a ∷ es) d = sources M.arrows a (worked M es d)
+
+-- which is to fold over them from the last to the first
+pub worked_is : (M : Machine) (es : List ℕ) (d : ℕ) → fold (λ d a. sources M.arrows a d) d (reverse es) ≡ worked M es d
+worked_is M [] d = refl
+worked_is M (a ∷ es) d =
+    let f = λ (d a : ℕ). sources M.arrows a d in
+    ap (fold f d) (reverse-cons a es) ∙ fold_push f d (reverse es) a ∙ ap (sources M.arrows a) (worked_is M es d)
 
 module _ (m : ℕ) (M : Machine) (F : Formed m M) where
   walks_lowered : {es : List ℕ} {s t : ℕ} → Walks M es s t → Walks M (lowered m es) s t

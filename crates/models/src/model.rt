@@ -1,10 +1,12 @@
 // A model as a caller lends it, whatever the table holds, the questions asked of it, and what it sends.
-ghost use Rattle.std.specs.Prelude.{◌≡◌, ℕ, ◌<◌, true, List, length, is_ok, Some, None, Decides, MatchResult};
+ghost use Rattle.std.specs.Prelude.{◌≡◌, ℕ, ◌<◌, true, List, length, reverse, is_ok, Some, None, Decides, MatchResult};
+ghost use Rattle.std.specs.List.{fold};
 ghost use Rattle.models.specs.Formed.{Formed};
 ghost use Rattle.models.specs.Machine.{read, arrow};
 ghost use Rattle.models.specs.Questions.{judged, sized};
 ghost use Rattle.sets.specs.Events.{lowered};
 ghost use Rattle.models.specs.Sent.{Sends};
+ghost use Rattle.models.specs.Sources.{sources};
 
 use crate::arrow::Arrow;
 use crate::fault::ModelFault;
@@ -33,7 +35,7 @@ impl<'a> Model<'a> {
             → (Sends (read self.entry) es → Sends (read self.entry) (lowered signals es))
             × (Sends (read self.entry) (lowered signals es) → Sends (read self.entry) es) }
     {
-        ask(self, signals)
+        self.ask(signals)
     }
 
     // Whether the model sends the events, or the first fault of the model.
@@ -43,47 +45,48 @@ impl<'a> Model<'a> {
             (λ f. judged signals (read self.entry) ≡ Some f) }
     {
         self.check(signals)?;
-        Ok(is_sent(self, events))
+        Ok(self.is_sent(events))
     }
-}
 
-// Whether the model sends the events: worked back from the end states, the last event first, they lead to the start.
-fn is_sent(model: Model, events: &[Event]) -> bool
-    requires { (i : ℕ) → i < length model.arrows.now → (arrow (read model) i).from < 64 }
-    ensures { Decides result (Sends (read model.entry) events.now) }
-{
-    let mut states = model.ends;
-    for i in (0..events.len()).rev() {
-        states = sources(model.arrows, events[i], states);
+    // Whether the model sends the events: worked back from the end states, they lead to the start.
+    fn is_sent(self, events: &[Event]) -> bool
+        requires { (i : ℕ) → i < length self.arrows.now → (arrow (read self) i).from < 64 }
+        ensures { Decides result (Sends (read self.entry) events.now) }
+    {
+        holds(self.worked_back(events), usize::from(self.start))
     }
-    holds(states, model.start as usize)
-}
 
-// The questions in order: sizes, start and end states, then arrow by arrow.
-fn ask(model: Model, signals: u8) -> Result<(), ModelFault>
-    ensures { MatchResult result
-        (λ _. judged signals (read model.entry) ≡ None)
-        (λ f. judged signals (read model.entry) ≡ Some f) }
-{
-    if !is_sized(
-        model.states as usize,
-        model.start,
-        model.ends,
-        model.arrows.len(),
-    ) {
-        return Err(ModelFault::Sizes);
+    // The states from which the model sends the events: from the end states, the last event first.
+    fn worked_back(self, events: &[Event]) -> States
+        ensures { result ≡ fold (λ d a. sources self.entry.arrows.now a d) self.entry.ends (reverse events.now) }
+    {
+        events.iter().rev().fold(
+            self.ends,
+            |states, event| sources(self.arrows, *event, states),
+        )
     }
-    check_arrows(model.arrows, model.states, signals)?;
-    Ok(())
-}
 
-// Whether there are 1 to 64 states and at most 256 arrows, and the start and each end state is one of the states. Where
-// the start is one of them, there is at least one.
-fn is_sized(states: usize, start: u8, ends: States, arrows: usize) -> bool
-    ensures { result ≡ sized states start ends arrows }
-{
-    states <= MAX_STATES
-        && arrows <= MAX_ARROWS
-        && (start as usize) < states
-        && is_below(ends, states)
+    // The questions in order: sizes, start and end states, then arrow by arrow.
+    fn ask(self, signals: u8) -> Result<(), ModelFault>
+        ensures { MatchResult result
+            (λ _. judged signals (read self.entry) ≡ None)
+            (λ f. judged signals (read self.entry) ≡ Some f) }
+    {
+        if !self.is_sized() {
+            return Err(ModelFault::Sizes);
+        }
+        check_arrows(self.arrows, self.states, signals)
+    }
+
+    // Whether there are 1 to 64 states and at most 256 arrows, and the start and each end state is one of the states.
+    // Where the start is one of them, there is at least one.
+    fn is_sized(self) -> bool
+        ensures { result ≡ sized self.entry.states self.entry.start self.entry.ends (length self.entry.arrows.now) }
+    {
+        let states = usize::from(self.states);
+        states <= MAX_STATES
+            && self.arrows.len() <= MAX_ARROWS
+            && self.start < self.states
+            && is_below(self.ends, states)
+    }
 }

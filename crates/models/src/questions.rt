@@ -15,8 +15,8 @@ pub(crate) fn check_arrows(arrows: &[Arrow], states: u8, signals: u8) -> Result<
         (λ _. arrows_fault states signals 0 arrows.now ≡ None)
         (λ f. arrows_fault states signals 0 arrows.now ≡ Some f) }
 {
-    for i in 0..arrows.len() {
-        if !is_proper(arrows[i], states, signals) {
+    for (i, arrow) in arrows.iter().enumerate() {
+        if !is_proper(*arrow, states, signals) {
             return Err(ModelFault::Arrow(i));
         }
     }
@@ -29,6 +29,6 @@ fn is_proper(arrow: Arrow, states: u8, signals: u8) -> bool
 {
     arrow.from < states
         && arrow.to < states
-        && is_below(arrow.mask as States, signals as usize)
-        && is_within(arrow.value as States, arrow.mask as States)
+        && is_below(States::from(arrow.mask), usize::from(signals))
+        && is_within(States::from(arrow.value), States::from(arrow.mask))
 }

@@ -10,10 +10,9 @@ pub(crate) fn sources(arrows: &[Arrow], event: Event, states: States) -> States
     ensures { result ≡ sources arrows.now event states }
 {
     let mut found = 0;
-    for i in 0..arrows.len() {
-        let arrow = arrows[i];
-        if arrow.admits(event) && holds(states, arrow.to as usize) {
-            found = add(found, arrow.from as usize);
+    for arrow in arrows {
+        if arrow.admits(event) && holds(states, usize::from(arrow.to)) {
+            found = add(found, usize::from(arrow.from));
         }
     }
     found

@@ -4,12 +4,10 @@ ghost use Rattle.kind_shapes.specs.Acceptance.{PatternAcceptance};
 ghost use Rattle.patterns.specs.View.{automaton};
 ghost use Rattle.pattern_kinds.specs.PatternKind.{single_pattern, pattern_kind, pattern_kind_laws};
 
-use kind_shapes::reading::{
-    event_count, event_of, finals_of, is_subset, predecessors, start_of, state_count,
-};
+use kind_shapes::reading::{event_count, event_of, finals_of, predecessors, start_of, state_count};
 use kinds::{Kind, Move};
 use patterns::pattern::Pattern;
-use sets::{Event, States, holds, is_below};
+use sets::{Event, States, holds, is_below, is_within};
 
 // A pattern by itself, with no model.
 #[derive(Drop)]
@@ -47,7 +45,7 @@ impl<'a> Kind for Single<'a> {
     }
 
     fn within(&self, x: States, y: States) -> bool {
-        is_subset(x, y)
+        is_within(x, y)
     }
 
     fn first_count(&self) -> usize {
@@ -55,11 +53,7 @@ impl<'a> Kind for Single<'a> {
     }
 
     fn first(&self, i: usize) -> Option<States> {
-        if i == 0 {
-            Some(finals_of(&self.pattern))
-        } else {
-            None
-        }
+        (i == 0).then_some(finals_of(&self.pattern))
     }
 
     fn moves(&self) -> Move {
@@ -74,6 +68,7 @@ impl<'a> Kind for Single<'a> {
         holds(x, start_of(&self.pattern))
     }
 
+    // Stays: a closure in `then` leaves the goal open, since what it gives is known only where the test is true.
     fn back(&self, k: Move, y: States) -> Option<States> {
         if k < event_count(&self.pattern) {
             Some(predecessors(&self.pattern, event_of(&self.pattern, k), y))

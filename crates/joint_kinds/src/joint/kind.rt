@@ -14,13 +14,13 @@ use crate::members::{member, member_count};
 use crate::parts::CheckedJoint;
 use kind_shapes::JointConfig;
 use kind_shapes::reading::{
-    arrow_of, event_count, event_of, finals_of, is_subset, predecessors, start_of, state_count,
+    arrow_of, event_count, event_of, finals_of, predecessors, start_of, state_count,
 };
 use kinds::{Kind, Move};
 use models::arrow::Arrow;
 use models::model::Model;
 use patterns::pattern::Pattern;
-use sets::{Event, States, holds, is_below};
+use sets::{Event, States, holds, is_below, is_within};
 
 impl<'a> CheckedJoint<'a> {
     // The pattern with the model. Both are asked once more, since nothing but their making says that they were: tables
@@ -75,20 +75,15 @@ impl<'a> Kind for Joint<'a> {
     }
 
     fn within(&self, x: JointConfig, y: JointConfig) -> bool {
-        x.state == y.state && is_subset(x.set, y.set)
+        x.state == y.state && is_within(x.set, y.set)
     }
 
     fn first_count(&self) -> usize {
-        count_firsts(self.model.ends, self.model.states, finals_of(&self.pattern))
+        self.firsts().count()
     }
 
     fn first(&self, i: usize) -> Option<JointConfig> {
-        first_of(
-            self.model.ends,
-            self.model.states,
-            finals_of(&self.pattern),
-            i,
-        )
+        self.firsts().nth(i)
     }
 
     fn moves(&self) -> Move {
@@ -104,28 +99,50 @@ impl<'a> Kind for Joint<'a> {
     }
 
     fn back(&self, k: Move, y: JointConfig) -> Option<JointConfig> {
-        match arrow_at(self.model.arrows, arrow_of(&self.pattern, k)) {
-            Some(arrow) => cross(&self.pattern, event_of(&self.pattern, k), y, arrow),
-            None => None,
+        let arrow = arrow_at(self.model.arrows, arrow_of(&self.pattern, k))?;
+        cross(&self.pattern, event_of(&self.pattern, k), y, arrow)
+    }
+}
+
+impl<'a> Joint<'a> {
+    // What the first configurations are made of.
+    fn firsts(&self) -> Firsts
+        ensures ends { result.ends ≡ (joint_model self.now).ends }
+        ensures states { result.states ≡ (joint_model self.now).states }
+        ensures finals { result.finals ≡ (joint_pattern self.now).finals }
+    {
+        Firsts {
+            ends: self.model.ends,
+            states: self.model.states,
+            finals: finals_of(&self.pattern),
         }
     }
 }
 
-// How many first configurations there are: one for each end state. The final set is the same in all of them, and only
-// the contract names it.
-fn count_firsts(ends: States, states: u8, finals: States) -> usize
-    ensures { result ≡ length (map (λ q. joined q finals) (members ends states)) }
-{
-    member_count(ends, states)
+// The first configurations: each end state, in ascending order, with the final set.
+#[derive(Clone, Copy)]
+struct Firsts {
+    ends: States,
+    states: u8,
+    finals: States,
 }
 
-// The end state that has number i in ascending order, with the final set.
-fn first_of(ends: States, states: u8, finals: States, i: usize) -> Option<JointConfig>
-    ensures { result ≡ slice_get (map (λ q. joined q finals) (members ends states)) i }
-{
-    match member(ends, states, i) {
-        Some(state) => Some(JointConfig { state, set: finals }),
-        None => None,
+impl Firsts {
+    // How many there are: the final set is the same in all of them, and only the contract names it.
+    fn count(self) -> usize
+        ensures { result ≡ length (map (λ q. joined q self.finals) (members self.ends self.states)) }
+    {
+        member_count(self.ends, self.states)
+    }
+
+    // The one that has number i, and none where there are no more than i.
+    fn nth(self, i: usize) -> Option<JointConfig>
+        ensures { result ≡ slice_get (map (λ q. joined q self.finals) (members self.ends self.states)) i }
+    {
+        member(self.ends, self.states, i).map(|state| JointConfig {
+            state,
+            set: self.finals,
+        })
     }
 }
 
@@ -139,14 +156,11 @@ fn move_count(arrows: usize, events: Move) -> Move
     arrows as Move * events
 }
 
+// The arrow that has number i, and none where there are no more than i.
 fn arrow_at(arrows: &[Arrow], i: usize) -> Option<Arrow>
     ensures { result ≡ slice_get arrows.now i }
 {
-    if i < arrows.len() {
-        Some(arrows[i])
-    } else {
-        None
-    }
+    arrows.get(i).copied()
 }
 
 // Where the arrow leads back to from y under the event, if it admits the event and enters y's model state.

@@ -1,28 +1,14 @@
-use Rattle.std.proofs.Common.{◌≡◌, ℕ, ◌+◌, length, sym, refl, ap, ◌∙◌, arith}
-use Rattle.kind_shapes.specs.Shapes.{members}
-use Rattle.kind_shapes.proofs.Listing.{count_more, count_skip}
+use Rattle.std.proofs.Common.{ap, length, ◌∙◌, rules, tests, arith}
+use Rattle.std.proofs.lemmas.Iterator.{YieldsList-from_range}
+use Rattle.std.proofs.lemmas.Iterator.Consumers.{YieldsList-from_filter, count_from_yields_List}
+use Rattle.sets.specs.Sets.{has}
+use Rattle.kind_shapes.proofs.Listing.{listed}
 use Rattle.joint_kinds.proofs.members.member_count.Goals as goal
-use Rattle.joint_kinds.proofs.members.member_count.Goals.{then-holds, else-holds}
-
-pub loop-q-init : goal.loop-q-init
-unfolding members
-loop-q-init c = (refl, omega arith)
-
-pub loop-q-preserved : goal.loop-q-preserved
-loop-q-preserved c =
-    let q = c.loop-q.q in
-    elim c.if-holds.branch [
-      | then-holds w ↦ (
-        w.count-is ∙ ap (λ (n : ℕ). n + 1) c.loop-q.invariant.0 ∙ sym (count_more c.args.set q (sym c.holds.ensures ∙ w.if-holds.true)),
-        omega (arith, w.count-is),
-      )
-      | else-holds w ↦ (
-        w.count-is ∙ c.loop-q.invariant.0 ∙ sym (count_skip c.args.set q (sym c.holds.ensures ∙ w.if-holds.false)),
-        omega (arith, w.count-is),
-      )
-    ]
 
 pub returns : goal.returns
 returns c =
-    let q : c.loop-q.q ≡ c.args.limit = omega arith in
-    c.loop-q.invariant.0 ∙ ap (λ (k : ℕ). length (members c.args.set k)) q
+    count_from_yields_List c.filter.result c.count.result c.count.ensures.ran
+    (YieldsList-from_filter _ (has c.args.set)
+    (YieldsList-from_range 0 c.args.limit c.args.limit c.filter.ensures.source (omega arith))
+    c.filter.ensures.closure (λ x b q k. search (rules, tests)))
+    ∙ ap length (listed c.args.set c.args.limit)

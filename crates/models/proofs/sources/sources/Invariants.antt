@@ -3,5 +3,5 @@ use Rattle.models.specs.Sources.{sources}
 use Rattle.models.proofs.sources.sources.Given as goal
 
 -- the states found by the arrows so far
-abbrev pub invariant-loop-i : goal.invariant-loop-i
-invariant-loop-i l = l.found ≡ sources (take l.i l.arrows) l.event l.states
+abbrev pub invariant-loop-arrow : goal.invariant-loop-arrow
+invariant-loop-arrow l = l.found ≡ sources (take l.arrow-index l.arrows) l.event l.states

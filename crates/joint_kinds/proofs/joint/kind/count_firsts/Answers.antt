@@ -1,7 +1,0 @@
-use Rattle.std.proofs.Common.{sym, ◌∙◌}
-use Rattle.std.proofs.lemmas.List.{length-map}
-use Rattle.kind_shapes.specs.Shapes.{members}
-use Rattle.joint_kinds.proofs.joint.kind.count_firsts.Goals as goal
-
-pub returns : goal.returns
-returns c = c.member_count.ensures ∙ sym (length-map (members c.args.ends c.args.states) _)
