@@ -2,22 +2,20 @@
 use patterns::examples::latch;
 use patterns::fault::Fault;
 use patterns::parts::Parts;
-use patterns::row;
-use patterns::row::Row;
+use patterns::row::{Operation, Row};
 use std::test::Fail;
 
 fn accepts(parts: Parts, events: &[u16]) -> Result<bool, Fail> {
-    match parts.accepts(events) {
-        Ok(answer) => Ok(answer),
-        Err(_) => Err(Fail::new("the parts are refused")),
-    }
+    parts
+        .accepts(events)
+        .map_err(|_| Fail::new("the parts are refused"))
 }
 
 fn back(parts: Parts, event: u16, states: u64) -> Result<u64, Fail> {
-    match parts.checked() {
-        Ok(checked) => Ok(checked.seal().back(event, states)),
-        Err(_) => Err(Fail::new("the parts are refused")),
-    }
+    let checked = parts
+        .checked()
+        .map_err(|_| Fail::new("the parts are refused"))?;
+    Ok(checked.seal().back(event, states))
 }
 
 #[test]
@@ -40,42 +38,42 @@ fn latch_cases(rt: HostRuntime) -> Result<(), Fail> {
 // Every operation, over a signal and a state.
 const OPERATIONS: [Row; 8] = [
     Row {
-        operation: row::SIGNAL,
+        operation: Operation::Signal as u8,
         left: 0,
         right: 0,
     },
     Row {
-        operation: row::STATE,
+        operation: Operation::State as u8,
         left: 63,
         right: 0,
     },
     Row {
-        operation: row::AND,
+        operation: Operation::And as u8,
         left: 0,
         right: 1,
     },
     Row {
-        operation: row::OR,
+        operation: Operation::Or as u8,
         left: 0,
         right: 1,
     },
     Row {
-        operation: row::NOT,
+        operation: Operation::Not as u8,
         left: 0,
         right: 0,
     },
     Row {
-        operation: row::FALSE,
+        operation: Operation::False as u8,
         left: 0,
         right: 0,
     },
     Row {
-        operation: row::TRUE,
+        operation: Operation::True as u8,
         left: 0,
         right: 0,
     },
     Row {
-        operation: row::SIGNAL,
+        operation: Operation::Signal as u8,
         left: 15,
         right: 0,
     },
@@ -85,13 +83,8 @@ const OPERATIONS: [Row; 8] = [
 fn operations(rt: HostRuntime) -> Result<(), Fail> {
     let rows = OPERATIONS;
     let mut roots = [5; 64];
-    roots[0] = 0;
-    roots[1] = 1;
-    roots[2] = 2;
-    roots[3] = 3;
-    roots[4] = 4;
-    roots[62] = 7;
-    roots[63] = 6;
+    roots[..5].copy_from_slice(&[0, 1, 2, 3, 4]);
+    roots[62..].copy_from_slice(&[7, 6]);
     let parts = Parts {
         signals: 16,
         start: 0,
@@ -112,7 +105,7 @@ fn operations(rt: HostRuntime) -> Result<(), Fail> {
 #[test]
 fn edges(rt: HostRuntime) -> Result<(), Fail> {
     let rows = [Row {
-        operation: row::TRUE,
+        operation: Operation::True as u8,
         left: 0,
         right: 0,
     }];
@@ -138,7 +131,7 @@ fn edges(rt: HostRuntime) -> Result<(), Fail> {
         true
     );
     let never = [Row {
-        operation: row::FALSE,
+        operation: Operation::False as u8,
         left: 0,
         right: 0,
     }];
@@ -154,23 +147,20 @@ fn edges(rt: HostRuntime) -> Result<(), Fail> {
 }
 
 #[test]
-fn refusals() -> Result<(), Fail> {
+fn refusals(rt: HostRuntime) -> Result<(), Fail> {
     let rows = [Row {
-        operation: row::TRUE,
+        operation: Operation::True as u8,
         left: 0,
         right: 0,
     }];
     let roots = [1];
-    match (Parts {
+    let parts = Parts {
         signals: 0,
         start: 0,
         finals: 0,
         roots: &roots,
         rows: &rows,
-    })
-    .accepts(&[1])
-    {
-        Err(Fault::Root(0)) => Ok(()),
-        _ => Err(Fail::new("a root past the rows was not refused")),
-    }
+    };
+    assert_eq!(rt; parts.accepts(&[1]), Err(Fault::Root(0)));
+    Ok(())
 }

@@ -1,19 +1,24 @@
 -- Working back from the final set finds exactly the accepted sequences.
-use Rattle.std.proofs.Common.{◌≡◌, ℕ, ◌+◌, ◌%◌, ◌^◌, true, List, [], ◌∷◌, Decides, sym, refl, ap, ◌∙◌, arith}
+use Rattle.std.proofs.Common.{◌≡◌, ℕ, ◌+◌, ◌%◌, ◌^◌, true, List, [], ◌∷◌, Decides, fold, reverse, sym, refl, ap, ◌∙◌, arith}
 use Rattle.std.proofs.lemmas.Bool.Decides.{Decides-at}
+use Rattle.std.proofs.lemmas.Grind.{reverse_onto, fold-append}
 use Rattle.sets.specs.Sets.{has, Within}
 use Rattle.sets.proofs.Members.{has_set_of, in_set_of, has_one, in_one, set_of_lt, same_set, has_low_mod}
 use Rattle.patterns.specs.Automaton.{Automaton, states, root}
 use Rattle.patterns.specs.Values.{value, back}
+pub use Rattle.patterns.specs.Values.{backs}
 use Rattle.patterns.specs.Formed.{Formed}
 use Rattle.sets.specs.Events.{lowered}
 use Rattle.patterns.specs.Accepted.{Step, Leads, done, step, Accepted}
 use Rattle.patterns.proofs.Depending.{value_grows, value_same}
 
--- the events worked back from a set, the last first
-abbrev pub backs : Automaton → List ℕ → ℕ → ℕ
-backs A [] d = d
-backs A (a ∷ es) d = back A a (backs A es d)
+-- going over the events from the last works them back
+pub backs_folded : (A : Automaton) (es : List ℕ) (d : ℕ) → backs A es d ≡ fold (λ x a. back A a x) d (reverse es)
+backs_folded A [] d = refl
+backs_folded A (a ∷ es) d =
+    let f : ℕ → ℕ → ℕ = λ x b. back A b x in
+    ap (back A a) (backs_folded A es d)
+    ∙ sym (ap (fold f d) (reverse_onto es a []) ∙ fold-append f d (reverse es) (a ∷ []))
 
 module _ (A : Automaton) where
   -- back holds every set from which one step leads to d, and only states of such sets

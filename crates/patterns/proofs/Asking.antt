@@ -1,23 +1,29 @@
 -- The steps of the questions on roots and rows.
-use Rattle.std.proofs.Common.{◌≡◌, ℕ, ◌+◌, ◌<◌, ◌≤◌, Bool, List, [], ◌∷◌, ◌++◌, length, get_or, drop, Some, None, Option, sym, ap, ◌∙◌}
+use Rattle.std.proofs.Common.{◌≡◌, ℕ, ◌+◌, ◌<◌, Bool, true, false, cond, not, ltb, leb, refl, arith, List, [], ◌∷◌, ◌++◌, length, get_or, drop, Some, None, Option, sym, ap, ◌∙◌}
 use Rattle.std.proofs.lemmas.List.{at_drop_more}
-use Rattle.std.proofs.lemmas.Bool.{lt-ltb, le-ltb}
+use Rattle.std.proofs.lemmas.Bool.Decides.{nat_tests}
+use Rattle.std.proofs.lemmas.Iterator.Adapters.{position_from-zero}
+use Rattle.std.specs.List.{position, position_from}
+use Rattle.std.specs.Option.{option_map}
 use Rattle.patterns.specs.declared.row.Row.{Row}
 use Rattle.patterns.specs.declared.fault.Fault.{Fault}
 use Rattle.patterns.specs.declared.fault.Fault.TheVariants.{Root}
 use Rattle.patterns.specs.Questions.{roots_fault, rows_fault, row_fault, free_step, free, first, unless}
 
-module _ (N : ℕ) (roots : List ℕ) (q : ℕ) (h : q < length roots) where
-  rest : Bool → Option Fault
-  rest b = first (unless b (Root q)) (roots_fault N (q + 1) (drop (q + 1) roots))
+root_before : (b c : Bool) (q : ℕ) (o : Option Fault) (p : Option ℕ) → c ≡ not b → o ≡ option_map Root p
+    → first (unless c (Root q)) o ≡ option_map Root (cond b (Some q) p)
+root_before true c q o p e h = ap (λ (d : Bool). first (unless d (Root q)) o) e
+root_before false c q o p e h = ap (λ (d : Bool). first (unless d (Root q)) o) e ∙ h
 
-  pub roots_more : get_or roots q 0 < N → roots_fault N (q + 1) (drop (q + 1) roots) ≡ roots_fault N q (drop q roots)
-  unfolding rest
-  roots_more l = sym (at_drop_more (roots_fault N q) roots q 0 h ∙ ap rest (lt-ltb (get_or roots q 0) N l))
+roots_from : (N q : ℕ) (roots : List ℕ) → roots_fault N q roots ≡ option_map Root (position_from (leb N) q roots)
+roots_from N q [] = refl
+roots_from N q (r ∷ rs) =
+    root_before (leb N r) (ltb r N) q (roots_fault N (q + 1) rs) (position_from (leb N) (q + 1) rs)
+    (grind (arith, nat_tests)) (roots_from N (q + 1) rs)
 
-  pub roots_stop : N ≤ get_or roots q 0 → roots_fault N q (drop q roots) ≡ Some (Root q)
-  unfolding rest
-  roots_stop l = at_drop_more (roots_fault N q) roots q 0 h ∙ ap rest (le-ltb (get_or roots q 0) N l)
+-- the first fault of the roots is that of the first root past the rows
+pub roots_at : (N : ℕ) (roots : List ℕ) → roots_fault N 0 roots ≡ option_map Root (position (leb N) roots)
+roots_at N roots = roots_from N 0 roots ∙ ap (option_map Root) (sym (position_from-zero (leb N) roots))
 
 module _ (n m : ℕ) (rows : List Row) (i : ℕ) (x : Row) (h : i < length rows) (fs : List Bool) where
   pub rows_more : (b : Bool) → row_fault n m fs (get_or rows i x) ≡ None → b ≡ free fs (get_or rows i x)

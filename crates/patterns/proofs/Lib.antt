@@ -5,3 +5,4 @@ pub mod Forming
 pub mod Meeting
 pub mod Depending
 pub mod Accepting
+pub mod Made

@@ -7,7 +7,7 @@ use Rattle.patterns.specs.declared.row.Row.{Row}
 use Rattle.patterns.specs.declared.fault.Fault.{Fault}
 use Rattle.patterns.specs.declared.fault.Fault.TheVariants.{Sizes, Ends, Root, Operand, Negation}
 use Rattle.patterns.specs.Automaton.{Automaton, states, row, blank}
-use Rattle.patterns.specs.Questions.{judged, sized, ended, roots_fault, rows_fault, row_fault, free_step, first, unless, ordered}
+use Rattle.patterns.specs.Questions.{judged, sized, ended, roots_fault, rows_fault, row_fault, free_step, first, unless, known, ordered}
 use Rattle.patterns.specs.Formed.{StateFree, leaf, pair, negated, Proper, constant_0, constant_1, state, signal, conjunction, disjunction, negation, Formed}
 use Rattle.patterns.proofs.Forming.{formed}
 use Rattle.patterns.proofs.Marking.{marks, length_marks, marked}
@@ -21,6 +21,16 @@ operands_before A i r (signal l) = refl
 operands_before A i r (conjunction {j} {k} l m) = and_from (ltb j i) (ltb k i) (lt-ltb j i l) (lt-ltb k i m)
 operands_before A i r (disjunction {j} {k} l m) = and_from (ltb j i) (ltb k i) (lt-ltb j i l) (lt-ltb k i m)
 operands_before A i r (negation {j} l f) = lt-ltb j i l
+
+-- a proper row is known
+pub known_proper : (A : Automaton) (i : ℕ) (r : Row) → Proper A i r → known r ≡ true
+known_proper A i r constant_0 = refl
+known_proper A i r constant_1 = refl
+known_proper A i r (state l) = refl
+known_proper A i r (signal l) = refl
+known_proper A i r (conjunction l m) = refl
+known_proper A i r (disjunction l m) = refl
+known_proper A i r (negation l f) = refl
 
 below_power : (n : ℕ) → n < 2 ^ n
 below_power zero = omega arith

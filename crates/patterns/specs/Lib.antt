@@ -1,3 +1,4 @@
+pub mod Operations
 pub mod Automaton
 pub mod Values
 pub mod Accepted

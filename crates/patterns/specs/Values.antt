@@ -4,6 +4,7 @@
 -- values rows a d         the value of each row in turn
 -- value A a d i           the value of row i
 -- back A a d              the states whose root row is 1 under event a and set d
+-- backs A es d            the events es worked back from the set d, the last first
 use Rattle.std.specs.Prelude.{ℕ, Bool, true, false, cond, not, ◌&&◌, ◌||◌, List, [], ◌∷◌, ◌++◌, fold, ◌==◌, slice_index_or}
 use Rattle.sets.specs.Sets.{has, set_of}
 use Rattle.patterns.specs.declared.row.Row.{Row}
@@ -30,3 +31,7 @@ value A a d i = slice_index_or (values A.rows a d) i false
 
 abbrev pub back : Automaton → ℕ → ℕ → ℕ
 back A a d = set_of (λ q. value A a d (root A q)) (states A)
+
+abbrev pub backs : Automaton → List ℕ → ℕ → ℕ
+backs A [] d = d
+backs A (a ∷ es) d = back A a (backs A es d)

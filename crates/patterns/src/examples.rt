@@ -4,24 +4,23 @@ ghost use Rattle.patterns.specs.Automaton.{read};
 ghost use Rattle.patterns.specs.Latch.{latch, Worked};
 
 use crate::parts::Parts;
-use crate::row;
-use crate::row::Row;
+use crate::row::{Operation, Row};
 
 static LATCH_ROOTS: [u16; 2] = [2, 0];
 
 static LATCH_ROWS: [Row; 3] = [
     Row {
-        operation: row::SIGNAL,
+        operation: Operation::Signal as u8,
         left: 0,
         right: 0,
     },
     Row {
-        operation: row::STATE,
+        operation: Operation::State as u8,
         left: 1,
         right: 0,
     },
     Row {
-        operation: row::AND,
+        operation: Operation::And as u8,
         left: 0,
         right: 1,
     },

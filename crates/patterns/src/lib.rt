@@ -3,8 +3,8 @@
 
 pub mod examples;
 pub mod fault;
+mod over;
 pub mod parts;
 pub mod pattern;
 pub mod questions;
 pub mod row;
-mod values;

@@ -1,10 +1,10 @@
 // The questions asked of a pattern's tables, one by one.
-ghost use Rattle.std.specs.Prelude.{◌≡◌, ℕ, ◌≤◌, true, [], length, Some, None, MatchResult};
-ghost use Rattle.patterns.specs.Questions.{sized, ended, row_fault, rows_fault, roots_fault, free, known, ordered, placed};
+ghost use Rattle.std.specs.Prelude.{◌≡◌, ◌≤◌, [], length, position, nat_le, Some, None, MatchResult};
+ghost use Rattle.patterns.specs.Questions.{sized, ended, row_fault, rows_fault, roots_fault, free, known, placed};
 
 use crate::fault::Fault;
-use crate::row;
-use crate::row::Row;
+use crate::over::Over;
+use crate::row::{Operation, Row, UnknownOperation};
 use sets::{MAX_STATES, States, is_below};
 
 // A pattern has at most this many rows.
@@ -27,20 +27,29 @@ pub fn is_ended(states: usize, start: u8, finals: States) -> bool
 }
 
 // Whether each root is one of the rows, of which there are `count`.
+#[tactic(auto, using(crate::proofs::Asking::roots_at))]
 pub(crate) fn check_roots(roots: &[u16], count: usize) -> Result<(), Fault>
     ensures { MatchResult result
         (λ _. roots_fault count 0 roots.now ≡ None)
         (λ f. roots_fault count 0 roots.now ≡ Some f) }
 {
-    for q in 0..roots.len() {
-        if roots[q] as usize >= count {
-            return Err(Fault::Root(q));
-        }
+    match rootless(roots, count) {
+        Some(state) => Err(Fault::Root(state)),
+        None => Ok(()),
     }
-    Ok(())
+}
+
+// The first state whose root is none of the rows.
+fn rootless(roots: &[u16], count: usize) -> Option<usize>
+    ensures { result ≡ position (nat_le count) roots.now }
+{
+    roots.iter().position(|root| count <= *root as usize)
 }
 
 // Whether each row is one that a pattern may have, of so many states and signals.
+// Stays: (a) the library has no heap, so the bits of the rows so far are the front of a table as long as a pattern's.
+// Stays: (d) `states` and `signals` travel together here and in `is_placed`, but `check_row` between them is public and
+// takes them apart, so a struct of the two would only be made and taken apart again.
 pub(crate) fn check_rows(rows: &[Row], states: usize, signals: u8) -> Result<(), Fault>
     requires { length rows.now ≤ 1024 }
     ensures { MatchResult result
@@ -48,8 +57,8 @@ pub(crate) fn check_rows(rows: &[Row], states: usize, signals: u8) -> Result<(),
         (λ f. rows_fault states signals [] rows.now ≡ Some f) }
 {
     let mut frees = [false; MAX_ROWS];
-    for i in 0..rows.len() {
-        let free = check_row(rows[i], states, signals, &frees[0..i])?;
+    for (i, row) in rows.iter().enumerate() {
+        let free = check_row(*row, states, signals, &frees[..i])?;
         frees[i] = free;
     }
     Ok(())
@@ -69,47 +78,35 @@ pub fn check_row(row: Row, states: usize, signals: u8, before: &[bool]) -> Resul
     if !is_placed(row, states, signals, i) {
         return Err(Fault::Operand(i));
     }
-    if row.operation == row::NOT && !before[row.left as usize] {
+    let row = Over { row, before };
+    if !row.is_negatable() {
         return Err(Fault::Negation(i));
     }
-    Ok(is_free(row, before))
+    Ok(row.is_free())
 }
 
 // Whether the operation is one of the seven, and the operands that it does not use are 0.
 fn is_known(row: Row) -> bool
     ensures { result ≡ known row }
 {
-    match row.operation {
-        row::FALSE | row::TRUE => row.left == 0 && row.right == 0,
-        row::STATE | row::SIGNAL | row::NOT => row.right == 0,
-        row::AND | row::OR => true,
-        _ => false,
+    match Operation::try_from(row.operation) {
+        Ok(Operation::False | Operation::True) => row.left == 0 && row.right == 0,
+        Ok(Operation::State | Operation::Signal | Operation::Not) => row.right == 0,
+        Ok(Operation::And | Operation::Or) => true,
+        Err(UnknownOperation(_)) => false,
     }
 }
 
-// Whether row i names a state, a signal, rows before its own.
+// Whether row i names a state, a signal, rows before its own. A row of an unknown operation is taken for a pair.
 fn is_placed(row: Row, states: usize, signals: u8, i: usize) -> bool
     ensures { result ≡ placed states signals i row }
 {
-    let left = row.left as usize;
-    match row.operation {
-        row::FALSE | row::TRUE => true,
-        row::STATE => left < states,
-        row::SIGNAL => left < signals as usize,
-        row::NOT => left < i,
-        _ => left < i && (row.right as usize) < i,
-    }
-}
-
-// Whether no state stands at the row or below it, given the same of the rows before it.
-fn is_free(row: Row, before: &[bool]) -> bool
-    requires { ordered (length before.now) row ≡ true }
-    ensures { result ≡ free before.now row }
-{
-    match row.operation {
-        row::STATE => false,
-        row::FALSE | row::TRUE | row::SIGNAL => true,
-        row::NOT => before[row.left as usize],
-        _ => before[row.left as usize] && before[row.right as usize],
+    let (left, right) = (row.left as usize, row.right as usize);
+    match Operation::try_from(row.operation) {
+        Ok(Operation::False | Operation::True) => true,
+        Ok(Operation::State) => left < states,
+        Ok(Operation::Signal) => left < signals as usize,
+        Ok(Operation::Not) => left < i,
+        Ok(Operation::And | Operation::Or) | Err(UnknownOperation(_)) => left < i && right < i,
     }
 }

@@ -1,22 +1,72 @@
 // A row of a pattern's table: an operation and two operands.
+ghost use Rattle.std.specs.Prelude.{◌≡◌};
+ghost use Rattle.patterns.specs.Operations.{code, Decodes};
 
-// The constants, which use no operand.
-pub const FALSE: u8 = 0;
+// What a row does with its operands, under the number that stands for it in a table.
+#[derive(Clone, Copy, PartialEq, Eq, Debug)]
+pub enum Operation {
+    // The constants, which use no operand.
+    False = 0,
+    True = 1,
+    // The state numbered left: 1 where it is in the set.
+    State = 2,
+    // The signal numbered left: 1 where the event has it on.
+    Signal = 3,
+    // The rows left and right, which come earlier in the table.
+    And = 4,
+    Or = 5,
+    // The row left, negated. No state stands below it.
+    Not = 6,
+}
 
-pub const TRUE: u8 = 1;
-// The state numbered left: 1 where it is in the set.
-pub const STATE: u8 = 2;
-// The signal numbered left: 1 where the event has it on.
-pub const SIGNAL: u8 = 3;
-// The rows left and right, which come earlier in the table.
-pub const AND: u8 = 4;
+// A number that stands for no operation.
+#[derive(Clone, Copy, PartialEq, Eq, Debug)]
+pub struct UnknownOperation(pub u8);
 
-pub const OR: u8 = 5;
-// The row left, negated. No state stands below it.
-pub const NOT: u8 = 6;
+impl TryFrom<u8> for Operation {
+    type Error = UnknownOperation;
 
-// A table is the caller's and may hold any numbers, so the operation is a number and not an enum.
-#[derive(Clone, Copy)]
+    ghost try_from_gives = { Decodes };
+
+    fn try_from(number: u8) -> Result<Self, UnknownOperation> {
+        match number {
+            0 => Ok(Operation::False),
+            1 => Ok(Operation::True),
+            2 => Ok(Operation::State),
+            3 => Ok(Operation::Signal),
+            4 => Ok(Operation::And),
+            5 => Ok(Operation::Or),
+            6 => Ok(Operation::Not),
+            _ => Err(UnknownOperation(number)),
+        }
+    }
+}
+
+impl From<Operation> for u8 {
+    ghost from_gives = { λ operation number. number ≡ code operation };
+
+    fn from(operation: Operation) -> u8 {
+        operation as u8
+    }
+}
+
+// The numbers of the operations.
+pub const FALSE: u8 = Operation::False as u8;
+
+pub const TRUE: u8 = Operation::True as u8;
+
+pub const STATE: u8 = Operation::State as u8;
+
+pub const SIGNAL: u8 = Operation::Signal as u8;
+
+pub const AND: u8 = Operation::And as u8;
+
+pub const OR: u8 = Operation::Or as u8;
+
+pub const NOT: u8 = Operation::Not as u8;
+
+// Stays: (a) a table is the caller's and may hold any number, which is refused under 4, so the operation is a `u8`.
+#[derive(Clone, Copy, PartialEq, Eq, Debug, Default)]
 pub struct Row {
     pub operation: u8,
     pub left: u16,

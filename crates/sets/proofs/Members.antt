@@ -1,6 +1,6 @@
 -- Laws of membership: what a bit of a number says, and that members determine the set.
 use Rattle.std.proofs.Common.{◌≡◌, ℕ, zero, suc, ◌+◌, ◌-◌, ◌*◌, ◌/◌, ◌%◌, ◌^◌, ◌<◌, ◌≤◌, Bool, true, false, cond, ◌&&◌, ◌||◌, eqb, ltb, ◌⊎◌, Decides, sym, refl, ap, ◌∙◌, inl, inr, ⊎_elim, mul_assoc, pow-suc, arith, pow_mono, pow-add, shr-shr}
-use lib.Bits.{bit_and, bit_or, and_shr, and_mod, and_le_l, or_shr, or_mod}
+use lib.Bits.{bit_and, bit_or, and_shr, and_mod, and_le_l, or_shr, or_mod, or_lt}
 use lib.Pow.{field, high}
 use native.Mathlib.Nat.{mul-add-mod_self_right, div-eq_of_lt}
 use Rattle.std.proofs.lemmas.Bool.{cases_lt, cases_eq, cases_Bool, eqb-true, eq-eqb, ne_eqb, and_parts, both_ways, ltb-true, lt-ltb}
@@ -162,6 +162,10 @@ decides_within k c d l = (
     both true y h = h refl
     both false y h = refl
 
+-- the same of sets of states
+pub within_test : (c d : ℕ) → c < 2 ^ 64 → Decides (eqb (bit_and c d) c) (Within c d)
+within_test c d l = decides_within 64 c d l
+
 -- a set has all its members below n exactly if it is below 2 ^ n
 pub decides_below : (k c n : ℕ) → c < 2 ^ k → Decides (ltb c (2 ^ n)) (Below c n)
 decides_below k c n l = (
@@ -208,6 +212,13 @@ has_power s q = ⊎_elim
 pub union_one : (c m : ℕ) → union c (one m) ≡ set_of (λ q. has c q || eqb q m) 64
 union_one c m = set_of_same (λ (q : ℕ). has c q || has (one m) q) (λ (q : ℕ). has c q || eqb q m) 64
     (λ q h. ap (λ (b : Bool). has c q || b) (has_set_of (λ (j : ℕ). eqb j m) 64 q h))
+
+-- below 64 the union is what the bits of either give
+pub or_union : (c d : ℕ) → c < 2 ^ 64 → d < 2 ^ 64 → bit_or c d ≡ union c d
+or_union c d l m =
+    let either : ℕ → Bool = λ q. has c q || has d q in
+    same_set 64 (bit_or c d) (union c d) (or_lt 64 c d l m) (set_of_lt either 64)
+    (λ q h. has_or c d q ∙ sym (has_set_of either 64 q h))
 
 -- one number more is asked: it joins the set, or the set stays
 module _ (f : ℕ → Bool) (n : ℕ) where

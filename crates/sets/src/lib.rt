@@ -21,10 +21,12 @@ pub fn holds(set: States, member: usize) -> bool
 }
 
 // Whether every member of `set` is in `other`.
+#[tactic(auto, using(crate::proofs::Members::within_test))]
 pub fn is_within(set: States, other: States) -> bool
-    ensures { Decides result (Within set other) }
+    ensures value { result ≡ (bit_and set other == set) }
+    ensures members { Decides result (Within set other) }
 {
-    meet(set, other) == set
+    set & other == set
 }
 
 // Whether every member of the set is below `limit`.
@@ -36,10 +38,11 @@ pub fn is_below(set: States, limit: usize) -> bool
 }
 
 // The set with `member` too. Past the last bit there is no place for it, and the set stays as it is.
+#[tactic(auto, using(crate::proofs::Members::or_union))]
 pub fn add(set: States, member: usize) -> States
     ensures { result ≡ union set (one member) }
 {
-    join(set, single(member))
+    set | single(member)
 }
 
 // The members from `place` on, each moved down by `place`.
@@ -49,21 +52,6 @@ fn from_on(set: States, place: usize) -> States
     ensures members { Decides (result == 0) (Below set place) }
 {
     if place < MAX_STATES { set >> place } else { 0 }
-}
-
-// The members of both sets.
-fn meet(set: States, other: States) -> States
-    ensures value { result ≡ bit_and set other }
-    ensures members { Decides (result == set) (Within set other) }
-{
-    set & other
-}
-
-// The members of either set.
-fn join(set: States, other: States) -> States
-    ensures { result ≡ union set other }
-{
-    set | other
 }
 
 // The set of one member, or of none past the last bit.

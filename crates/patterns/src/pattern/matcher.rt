@@ -1,30 +1,29 @@
 // What a pattern does: the states that reach a set, and whether a sequence is accepted.
-ghost use Rattle.std.specs.Prelude.{◌≡◌, ℕ, ◌%◌, ◌^◌, ◌<◌, ◌≤◌, false, length, is_some, if◌then◌else◌, Some, None, Decides, MatchResult, slice_index, slice_index_or};
+ghost use Rattle.std.specs.Prelude.{◌≡◌, ℕ, ◌%◌, ◌^◌, false, length, is_some, if◌then◌else◌, Some, None, Decides, MatchResult, take, slice_index_or};
 ghost use Rattle.sets.specs.Sets.{has, set_of, Within};
 ghost use Rattle.sets.specs.Events.{lowered};
 ghost use Rattle.patterns.specs.Accepted.{Step, Accepted};
-ghost use Rattle.patterns.specs.Automaton.{read};
+ghost use Rattle.patterns.specs.Automaton.{read, root, states};
 ghost use Rattle.patterns.specs.Formed.{StateFree};
 ghost use Rattle.patterns.specs.Nothing.{nothing};
 ghost use Rattle.patterns.specs.Questions.{judged};
 ghost use Rattle.patterns.specs.Tables.{tables};
-ghost use Rattle.patterns.specs.Values.{value, back};
+ghost use Rattle.patterns.specs.Values.{value, values, back, backs};
 ghost use Rattle.patterns.specs.View.{automaton};
 
 use crate::fault::Fault;
+use crate::over::Over;
 use crate::parts::{Checked, Parts};
 use crate::pattern::Pattern;
 use crate::questions::MAX_ROWS;
-use crate::row;
-use crate::row::Row;
-use crate::values::evaluate;
+use crate::row::{Operation, Row};
 use sets::{Event, States, add, holds};
 
 // The tables of the pattern that accepts nothing: one state, whose condition is never met.
 static NO_ROOTS: [u16; 1] = [0];
 
 static NO_ROWS: [Row; 1] = [Row {
-    operation: row::FALSE,
+    operation: Operation::False as u8,
     left: 0,
     right: 0,
 }];
@@ -67,11 +66,12 @@ impl<'a> Pattern<'a> {
         ensures signals { result ≡ back (automaton self.now) (event % 2 ^ (automaton self.now).signals) states }
     {
         let mut table = [false; MAX_ROWS];
-        evaluate(self.parts.rows, event, states, &mut table);
-        collect(self.parts.roots, &table)
+        self.evaluate(event, states, &mut table);
+        self.collect(&table)
     }
 
     // Whether the pattern accepts the events. Their bits from the number of signals up make no difference.
+    #[tactic(auto, using(crate::proofs::Made::matched, crate::proofs::Made::matched_lowered))]
     pub fn matches(&self, events: &[Event]) -> bool
         ensures accepted { Decides result (Accepted (automaton self.now) events.now) }
         ensures signals { Decides result (Accepted (automaton self.now)
@@ -82,17 +82,38 @@ impl<'a> Pattern<'a> {
 
     // The states that some run under the events leads from to a subset of the final states: the events worked back from
     // the final set, the last first.
+    #[tactic(auto, using(crate::proofs::Accepting::backs_folded))]
     fn work_back(&self, events: &[Event]) -> States
-        ensures start { Decides (has result (automaton self.now).start)
-            (Accepted (automaton self.now) events.now) }
-        ensures signals { Decides (has result (automaton self.now).start)
-            (Accepted (automaton self.now) (lowered (automaton self.now).signals events.now)) }
+        ensures { result ≡ backs (automaton self.now) events.now (automaton self.now).finals }
     {
-        let mut states = self.parts.finals;
-        for i in (0..events.len()).rev() {
-            states = self.back(events[i], states);
+        events.iter().rev().fold(self.parts.finals, |states, event| self.back(*event, states))
+    }
+
+    // Writes the value of each row into the front of the table, in one pass: operands come before their row.
+    // Stays: (a) the library has no heap, so the values are the front of a table as long as a pattern's can be.
+    #[tactic(auto, using(crate::proofs::Made::few_rows))]
+    fn evaluate(&self, event: Event, states: States, table: &mut [bool; MAX_ROWS])
+        ensures { take (length self.now.parts.rows.now) table.new ≡ values self.now.parts.rows.now event states }
+    {
+        for (i, row) in self.parts.rows.iter().enumerate() {
+            let before = &table[..i];
+            let row = Over { row: *row, before };
+            let value = row.value(event, states);
+            table[i] = value;
         }
-        states
+    }
+
+    // The states whose root row is 1, by the table of the rows' values.
+    fn collect(&self, table: &[bool; MAX_ROWS]) -> States
+        ensures { result ≡ set_of (λ q. slice_index_or table.now (root (automaton self.now) q) false) (states (automaton self.now)) }
+    {
+        let mut found = 0;
+        for (q, root) in self.parts.roots.iter().enumerate() {
+            if table[*root as usize] {
+                found = add(found, q);
+            }
+        }
+        found
     }
 }
 
@@ -110,19 +131,4 @@ fn sound_or_nothing(parts: Parts) -> Parts
             rows: &NO_ROWS,
         },
     }
-}
-
-// The states whose root row is 1, by the table of the rows' values.
-fn collect(roots: &[u16], table: &[bool]) -> States
-    requires few { length roots.now ≤ 64 }
-    requires rooted { (q : ℕ) → q < length roots.now → slice_index roots.now q < length table.now }
-    ensures { result ≡ set_of (λ q. slice_index_or table.now (slice_index roots.now q) false) (length roots.now) }
-{
-    let mut found = 0;
-    for q in 0..roots.len() {
-        if table[roots[q] as usize] {
-            found = add(found, q);
-        }
-    }
-    found
 }

@@ -1,14 +1,10 @@
-use Rattle.std.proofs.Common.{◌≡◌, ℕ, ◌-◌, ◌<◌, Bool, List, length, take, sym, ap, ◌∙◌, arith, length-set}
+use Rattle.std.proofs.Common.{◌<◌, length, take, sym, ◌∙◌, arith, length-set}
 use Rattle.std.proofs.lemmas.List.{at_drop_all, take_more_set}
 use Rattle.std.proofs.lemmas.Result.{err_from_is_err_and}
 use Rattle.patterns.specs.Automaton.{blank}
 use Rattle.patterns.specs.Questions.{rows_fault}
 use Rattle.patterns.proofs.Asking.{rows_more, rows_stop}
 use Rattle.patterns.proofs.questions.check_rows.Goals as goal
-
--- `&frees[0..i]` as the checker reads it
-part : (i : ℕ) (t : List Bool) → take (i - 0) t ≡ take i t
-part i t = let z : i - 0 ≡ i = omega arith in ap (λ (k : ℕ). take k t) z
 
 pub returns-in_err-free : goal.returns-in_err-free
 returns-in_err-free c =
@@ -17,7 +13,7 @@ returns-in_err-free c =
     let t = c.loop-i.frees in
     rw (p.1, p.2) (sym c.loop-i.invariant.1
     ∙ rows_stop c.args.states c.args.signals c.args.rows.now i blank c.loop-i-test.true (take i t) _
-    (rw (part i t) at c.in_err-free.ensures))
+    c.in_err-free.ensures)
 
 pub loop-i-preserved : goal.loop-i-preserved
 loop-i-preserved c =
@@ -25,7 +21,7 @@ loop-i-preserved c =
     let t = c.loop-i.frees in
     let b = c.in_ok-free.free in
     let h : i < length t = omega arith in
-    let e = rw (part i t) at c.in_ok-free.ensures in (
+    let e = c.in_ok-free.ensures in (
       length-set t i b ∙ c.loop-i.invariant.0,
       rw (take_more_set t i b h)
           (rows_more c.args.states c.args.signals c.args.rows.now i blank c.loop-i-test.true (take i t) b e.0 e.1
