@@ -1,7 +1,7 @@
 -- The rows whose configuration a store holds, counted and copied one by one. Assumes nothing.
 use Rattle.std.proofs.Common.{◌≡◌, ℕ, ◌+◌, ◌<◌, ◌≤◌, true, false, cond, List, [], ◌∷◌, ◌++◌, map, length, get_or, take, drop, set, filter, sym, ap, ◌∙◌, arith, length-append}
 use Rattle.std.proofs.lemmas.Bool.{cond-true, cond-false}
-use Rattle.std.proofs.lemmas.List.{append-nil, map-append, map_push, take_all, take_more, take_more_set, take-append-drop, drop-set-lt, drop-drop, get_or_default, length_push}
+use Rattle.std.proofs.lemmas.List.{append-nil, map-append, map_push, take_all, take_more, take_more_set, take-append-drop, drop-set-lt, drop-drop, length_push}
 use Rattle.std.proofs.lemmas.List.Elements.{filter-append}
 use Rattle.kinds.specs.Shape.{Shape}
 use Rattle.stores.specs.Holding.{alike}
@@ -58,17 +58,15 @@ module _ {C : Type 0} (s : Shape C) (h : List C) (fs : List (Find C)) where
           let f = front_within (i + 1) in
           omega arith
 
-      -- z is what it is read with once more
       pub copying_held :
-          {before list : List C} {count : ℕ} → Copying before list count i → length (certificate_of s h fs) ≤ length list → (z : Find C)
-          → Copying before (set list count (get_or fs i z).configuration) (count + 1) (i + 1)
-      copying_held {before} {list} {count} c room z =
+          {before list : List C} {count : ℕ} → Copying before list count i → length (certificate_of s h fs) ≤ length list
+          → Copying before (set list count y.configuration) (count + 1) (i + 1)
+      copying_held {before} {list} {count} c room =
           let m = counting_room c.counted (length list) room in
-          let x = (get_or fs i z).configuration in
-          let same : x ≡ y.configuration = ap (λ (w : Find C). w.configuration) (get_or_default fs i z y l ∙ sym is) in
+          let x = y.configuration in
           record {
             counted = counting_held c.counted;
-            front = take_more_set list count x m ∙ ap (λ xs. xs ++ x ∷ []) c.front ∙ ap (λ w. certificate_of s h (take i fs) ++ w ∷ []) same ∙ sym held_more;
+            front = take_more_set list count x m ∙ ap (λ xs. xs ++ x ∷ []) c.front ∙ sym held_more;
             rest = drop-set-lt (count + 1) list count x (omega arith) ∙ sym (drop-drop 1 count list) ∙ ap (drop 1) c.rest ∙ drop-drop 1 count before;
           }
 

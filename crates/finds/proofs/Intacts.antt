@@ -1,12 +1,12 @@
 -- Tables that are as a search leaves them: the test decides it, it bounds lengths, it lasts, and searches have it. Assumes nothing.
-use Rattle.std.proofs.Common.{◌≡◌, ℕ, zero, suc, ◌<◌, ◌≤◌, true, false, ◌&&◌, eqb, ltb, List, [], ◌∷◌, ◌++◌, length, Some, Decides, sym, refl, ap, ◌∙◌, inl, inr, not-suc-le-zero, arith}
-use Rattle.std.specs.List.{slice_get}
+use Rattle.std.proofs.Common.{◌≡◌, ℕ, zero, suc, ◌+◌, ◌<◌, ◌≤◌, Bool, true, ◌&&◌, eqb, ltb, List, [], ◌∷◌, ◌++◌, length, drop, Some, Decides, sym, refl, ap, ◌∙◌, add-zero, add-one, zero-add, inl, inr, not-suc-le-zero, arith}
+use Rattle.std.proofs.Math.Bool.{and-true, and_comm, and_assoc}
+use Rattle.std.specs.List.{slice_get, list_all, enumerate_from}
 use Rattle.std.proofs.lemmas.Option.{slice_get_within}
-use Rattle.std.proofs.lemmas.Bool.{cases_lt, cond-true, cond-false, both_ways, lt-ltb, le-ltb, ltb-true, eqb-true, eq-eqb, and_parts, and_from}
+use Rattle.std.proofs.lemmas.Bool.{cases_lt, cond-true, cond-false, lt-ltb, le-ltb, ltb-true, eqb-true, eq-eqb, and_parts, and_from}
 use Rattle.std.proofs.lemmas.Bool.Decides.{Decides-below_and}
 use Rattle.kinds.specs.Shape.{Shape}
 use Rattle.kinds.proofs.Searches.{entry_at}
-use Rattle.kinds.proofs.Values.{false_if_not_true}
 use Rattle.inspector.specs.Inspected.{has_such, if_found}
 use Rattle.search.specs.declared.Find.{Find}
 use Rattle.search.specs.Search.{State, length_at}
@@ -17,6 +17,13 @@ use Rattle.finds.specs.Intact.{Follows, Intact, came_after, stands_in_place, int
 -- the length of a row that is there
 pub length_read : {C : Type 0} (fs : List (Find C)) (i : ℕ) (y : Find C) → slice_get fs i ≡ Some y → length_at fs i ≡ y.length
 length_read {C} fs i y e = ap (λ o. if_found o (λ (z : Find C). z.length) 0) e
+
+-- the first entry behind some others, and what stands behind it
+read_drop : {X : Type 0} (i : ℕ) (xs : List X) (y : X) (ys : List X) → drop i xs ≡ y ∷ ys → (slice_get xs i ≡ Some y) × (drop (suc i) xs ≡ ys)
+read_drop zero [] y ys e = absurd (cc)
+read_drop zero (x ∷ xs) y ys e = (cc, cc)
+read_drop (suc i) [] y ys e = absurd (cc)
+read_drop (suc i) (x ∷ xs) y ys e = read_drop i xs y ys e
 
 module _ {C : Type 0} (s : Shape C) (f : ℕ) (fs : List (Find C)) where
   -- ---- the test decides it
@@ -69,14 +76,25 @@ module _ {C : Type 0} (s : Shape C) (f : ℕ) (fs : List (Find C)) where
         ap (has_such (stands_in_place s f fs k)) y.1 ∙ placed h k y.0 y.1)),
   )
 
-  -- one row that is not in place is enough for no
-  pub not_intact : (i : ℕ) → i < length fs → has_such (stands_in_place s f fs i) (slice_get fs i) ≡ false → intact s f fs ≡ false
-  not_intact i l n = false_if_not_true (intact s f fs) (λ t. both_ways (has_such (stands_in_place s f fs i) (slice_get fs i)) n ((before_decides (length fs)).0 t i l))
-
-  -- one row more
-  pub intact_step : (i : ℕ) → intact_before s f fs i ≡ true → has_such (stands_in_place s f fs i) (slice_get fs i) ≡ true → intact_before s f fs (suc i) ≡ true
+  -- the question of every row from row i on, where b says that those before it are in place
+  rows_from : (i : ℕ) (ys : List (Find C)) (b : Bool) → drop i fs ≡ ys → b ≡ intact_before s f fs i
+      → (b && list_all (λ (p : ℕ × Find C). stands_in_place s f fs p.0 p.1) (enumerate_from i ys)) ≡ intact_before s f fs (i + length ys)
   unfolding intact_before
-  intact_step i b h = and_from (has_such (stands_in_place s f fs i) (slice_get fs i)) (intact_before s f fs i) h b
+  rows_from i [] b e t = and-true b ∙ t ∙ ap (intact_before s f fs) (sym (add-zero i))
+  rows_from i (y ∷ ys) b e t =
+      let r = read_drop i fs y ys e in
+      let here = stands_in_place s f fs i y in
+      let rest = list_all (λ (p : ℕ × Find C). stands_in_place s f fs p.0 p.1) (enumerate_from (i + 1) ys) in
+      let d : drop (i + 1) fs ≡ ys = rw add-one r.1 in
+      let more : (b && here) ≡ intact_before s f fs (i + 1) =
+      rw add-one (and_comm b here ∙ ap (λ c. here && c) t ∙ ap (λ o. has_such (stands_in_place s f fs i) o && intact_before s f fs i) (sym r.0)) in
+      let n : i + 1 + length ys ≡ i + suc (length ys) = omega arith in
+      sym (and_assoc b here rest) ∙ rows_from (i + 1) ys (b && here) d more ∙ ap (intact_before s f fs) n
+
+  -- so all rows are in place exactly if each is, one after the other
+  pub intact_all : list_all (λ (p : ℕ × Find C). stands_in_place s f fs p.0 p.1) (enumerate_from 0 fs) ≡ intact s f fs
+  unfolding intact_before
+  intact_all = rows_from 0 fs true refl refl ∙ ap (intact_before s f fs) (zero-add (length fs))
 
 module _ {C : Type 0} {s : Shape C} where
   -- ---- what it gives

@@ -1,6 +1,5 @@
 // The certificate of a table of finds: the configurations in it that a store still holds.
 ghost use Rattle.std.specs.Prelude.{◌≡◌, ◌≤◌, ◌++◌, length, drop};
-ghost use Rattle.stores.specs.Holding.{alike};
 ghost use Rattle.finds.specs.Results.{certificate_of, certificate_refusal, Answered};
 
 use crate::refusals::Refused;
@@ -30,13 +29,11 @@ pub fn write_certificate<K: Kind, S: Store<K>>(
 fn count_held<K: Kind, S: Store<K>>(kind: &K, store: &S, finds: &[Find<K::Config>]) -> usize
     ensures { result ≡ length (certificate_of (K.shape kind.now) (S.held store.now) finds.now) }
 {
-    let mut count = 0;
-    for i in 0..finds.len() {
-        if is_held(kind, store, &finds[i]) {
-            count += 1;
-        }
-    }
-    count
+    finds
+        .iter()
+        .map(|find| find.configuration)
+        .filter(|x| store.holds(kind, *x))
+        .count()
 }
 
 // Writes every row's configuration that the store holds into the front of a list that is long enough.
@@ -50,17 +47,10 @@ fn write_held<K: Kind, S: Store<K>>(
     ensures { list.new ≡ certificate_of (K.shape kind.now) (S.held store.now) finds.now ++ drop (length (certificate_of (K.shape kind.now) (S.held store.now) finds.now)) list.old }
 {
     let mut count = 0;
-    for i in 0..finds.len() {
-        if is_held(kind, store, &finds[i]) {
-            list[count] = finds[i].configuration;
+    for find in finds {
+        if store.holds(kind, find.configuration) {
+            list[count] = find.configuration;
             count += 1;
         }
     }
-}
-
-// Yes if and only if the store holds this row's configuration.
-fn is_held<K: Kind, S: Store<K>>(kind: &K, store: &S, find: &Find<K::Config>) -> bool
-    ensures { result ≡ alike (K.shape kind.now) (S.held store.now) find.now.configuration }
-{
-    store.holds(kind, find.configuration)
 }

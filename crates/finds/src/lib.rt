@@ -2,9 +2,8 @@
 // the least move to something new, the sequence, and the certificate. Every call takes tables of any contents.
 #![tactic(auto)]
 
-ghost use Rattle.std.specs.Prelude.{◌≡◌, suc, ◌<◌, length, Decides, ◌==◌};
-ghost use Rattle.std.specs.List.{slice_get};
-ghost use Rattle.inspector.specs.Inspected.{has_such};
+ghost use Rattle.std.specs.Prelude.{◌≡◌, suc, Decides, ◌==◌};
+ghost use Rattle.search.specs.Search.{length_at};
 ghost use Rattle.finds.specs.Intact.{came_after, stands_in_place, intact, Intact};
 
 use kinds::Kind;
@@ -22,47 +21,54 @@ pub fn is_intact<K: Kind>(kind: &K, starts: usize, finds: &[Find<K::Config>]) ->
     ensures value { result ≡ intact (K.shape kind.now) starts finds.now }
     ensures test { Decides result (Intact (K.shape kind.now) starts finds.now) }
 {
-    are_in_place(kind, starts, finds)
+    finds
+        .iter()
+        .enumerate()
+        .all(|(i, find)| is_in_place(kind, starts, finds, i, find))
 }
 
-// Yes if and only if every row is in place.
-fn are_in_place<K: Kind>(kind: &K, starts: usize, finds: &[Find<K::Config>]) -> bool
-    ensures { result ≡ intact (K.shape kind.now) starts finds.now }
-{
-    for i in 0..finds.len() {
-        if !is_in_place(kind, starts, finds, i) {
-            return false;
-        }
-    }
-    true
-}
-
-// Yes if and only if row i is in place: among the first rows by its length, otherwise by where it came from.
-fn is_in_place<K: Kind>(kind: &K, starts: usize, finds: &[Find<K::Config>], i: usize) -> bool
-    requires { i < length finds.now }
-    ensures { result ≡ has_such (stands_in_place (K.shape kind.now) starts finds.now i) (slice_get finds.now i) }
+// Yes if and only if row i, which this one is, is in place: among the first rows by its length, otherwise by where it
+// came from.
+fn is_in_place<K: Kind>(
+    kind: &K,
+    starts: usize,
+    finds: &[Find<K::Config>],
+    i: usize,
+    find: &Find<K::Config>,
+) -> bool
+    ensures { result ≡ stands_in_place (K.shape kind.now) starts finds.now i find.now }
 {
     if i < starts {
-        return finds[i].length == 0;
+        find.length == 0
+    } else {
+        comes_after(kind, finds, i, find)
     }
-    comes_after(kind, finds, i)
 }
 
-// Yes if and only if row i came from an earlier row by a move that the kind has, and is one longer.
-fn comes_after<K: Kind>(kind: &K, finds: &[Find<K::Config>], i: usize) -> bool
-    requires { i < length finds.now }
-    ensures { result ≡ has_such (came_after (K.shape kind.now) finds.now i) (slice_get finds.now i) }
+// Yes if and only if row i, which this one is, came from an earlier row by a move that the kind has, and is one longer.
+fn comes_after<K: Kind>(
+    kind: &K,
+    finds: &[Find<K::Config>],
+    i: usize,
+    find: &Find<K::Config>,
+) -> bool
+    ensures { result ≡ came_after (K.shape kind.now) finds.now i find.now }
 {
-    let origin = finds[i].origin;
-    if origin >= i {
-        return false;
-    }
-    is_one_more(finds[i].length, finds[origin].length) && finds[i].via < kind.moves()
+    find.origin < i
+        && is_one_more(find.length, length_at(finds, find.origin))
+        && find.via < kind.moves()
 }
 
-// Yes if and only if m is n and one; no sum is made, since n may be the greatest number there is.
+// The length of row i, and 0 where there is none.
+fn length_at<C>(finds: &[Find<C>], i: usize) -> usize
+    ensures { result ≡ length_at finds.now i }
+{
+    finds.get(i).map_or(0, |find| find.length)
+}
+
+// Yes if and only if m is n and one; n may be the greatest number there is.
 fn is_one_more(m: usize, n: usize) -> bool
     ensures { result ≡ (m == suc n) }
 {
-    m > 0 && m - 1 == n
+    n.checked_add(1) == Some(m)
 }

@@ -42,13 +42,13 @@ impl Refused {
         ensures { result ≡ (number_and_place self.now).1 }
     {
         match *self {
-            Refused::Rows => 0,
-            Refused::Store => 0,
-            Refused::Altered => 0,
-            Refused::Grant => 0,
-            Refused::NoRow => 0,
-            Refused::SequenceRoom => 0,
-            Refused::CertificateRoom => 0,
+            Refused::Rows
+            | Refused::Store
+            | Refused::Altered
+            | Refused::Grant
+            | Refused::NoRow
+            | Refused::SequenceRoom
+            | Refused::CertificateRoom => 0,
         }
     }
 }

@@ -37,10 +37,7 @@ pub fn write_sequence<K: Kind>(
 fn last_length<C>(finds: &[Find<C>]) -> usize
     ensures { result ≡ length_at finds.now (last_of finds.now) }
 {
-    if finds.is_empty() {
-        return 0;
-    }
-    finds[finds.len() - 1].length
+    finds.last().map_or(0, |find| find.length)
 }
 
 // Writes the events of `count` rows, from the last one along the origins, into the front of the list.
@@ -51,8 +48,9 @@ fn write_events<K: Kind>(kind: &K, finds: &[Find<K::Config>], list: &mut [Event]
     ensures { list.new ≡ sequence_of (K.shape kind.now) finds.now ++ drop count list.old }
 {
     let mut row = finds.len().saturating_sub(1);
-    for i in 0..count {
-        list[i] = kind.event(finds[row].via);
-        row = finds[row].origin;
+    for event in list[..count].iter_mut() {
+        let find = &finds[row];
+        *event = kind.event(find.via);
+        row = find.origin;
     }
 }

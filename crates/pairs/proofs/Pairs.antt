@@ -1,11 +1,60 @@
 -- The pairs of rows of a front of a table, and the operands of a pattern's rows.
-use Rattle.std.proofs.Common.{◌≡◌, ℕ, ◌+◌, ◌<◌, Bool, List, [], ◌∷◌, ◌++◌, length, get_or, take, fold, sym, refl, ap, ◌∙◌, arith}
+use Rattle.std.proofs.Common.{◌≡◌, ℕ, zero, suc, ◌+◌, ◌<◌, max, Bool, ltb, List, [], ◌∷◌, ◌++◌, length, get_or, take, fold, Some, None, Option, Ok, Err, Result, MatchResult, sym, refl, ap, ◌∙◌, inl, inr, arith}
+use Rattle.std.proofs.lemmas.Bool.{cases_lt, cond-true, cond-false, lt-ltb, le-ltb}
 use Rattle.std.proofs.lemmas.List.{take_more, append_assoc}
 use Rattle.patterns.specs.declared.row.Row.{Row}
-use Rattle.patterns.specs.Automaton.{Automaton, row, blank}
+use Rattle.patterns.specs.Automaton.{Automaton, states, row, blank}
 use Rattle.patterns.specs.Formed.{Proper, constant_0, constant_1, state, signal, conjunction, disjunction, negation, Formed}
-use Rattle.patterns.specs.Questions.{free, free_step}
+use Rattle.patterns.specs.Questions.{first, unless, sized, ended, roots_fault, row_fault, rows_fault, judged, free, free_step}
+use Rattle.patterns.specs.declared.fault.Fault.{Fault}
+use Rattle.patterns.specs.declared.fault.Fault.TheVariants.{Sizes, Ends}
+use Rattle.patterns.proofs.Meeting.{meets}
+use Rattle.duals.specs.Without.{larger}
 use Rattle.duals.specs.Dual.{row_copy, row_dual, dual_rows}
+
+-- the larger of two numbers, by the library's word
+pub larger_is : (m k : ℕ) → max m k ≡ larger m k
+larger_is m k = elim (cases_lt m k) [
+  | inl l ↦ let e : max m k ≡ k = omega arith in e ∙ sym (cond-true (ltb m k) k m (lt-ltb m k l))
+  | inr l ↦ let e : max m k ≡ m = omega arith in e ∙ sym (cond-false (ltb m k) k m (le-ltb m k l))
+]
+
+first_none : (o p : Option Fault) → first o p ≡ None → (o ≡ None) × (p ≡ None)
+first_none None p e = (refl, e)
+first_none (Some f) p e = (cc, cc)
+
+-- no row of a pattern is at fault, where the rows before it are asked as they come
+row_meets : (n m : ℕ) (fs : List Bool) (rs : List Row) (i : ℕ) → rows_fault n m fs rs ≡ None → i < length rs
+    → row_fault n m (fold free_step fs (take i rs)) (get_or rs i blank) ≡ None
+row_meets n m fs [] i e h = absurd (omega arith)
+row_meets n m fs (r ∷ rs) zero e h = (first_none (row_fault n m fs r) (rows_fault n m (free_step fs r) rs) e).0
+row_meets n m fs (r ∷ rs) (suc i) e h =
+    row_meets n m (free_step fs r) rs i (first_none (row_fault n m fs r) (rows_fault n m (free_step fs r) rs) e).1 (omega arith)
+
+rows_meet : (A : Automaton) → judged A ≡ None → rows_fault (states A) A.signals [] A.rows ≡ None
+unfolding judged
+rows_meet A e =
+    let rows = rows_fault (states A) A.signals [] A.rows in
+    let roots = roots_fault (length A.rows) 0 A.roots in
+    let ends = unless (ended (states A) A.start A.finals) Ends in
+    let sizes = unless (sized (states A) A.signals (length A.rows)) Sizes in
+    (first_none roots rows (first_none ends (first roots rows) (first_none sizes (first ends (first roots rows)) e).1).1).1
+
+-- so whether a row is free of states is answered
+pub free_answered : (A : Automaton) → Formed A → (i : ℕ) (fs : List Bool) (r : Result Bool Fault) → i < length A.rows
+    → fs ≡ fold free_step [] (take i A.rows)
+    → MatchResult r (λ b. (row_fault (states A) A.signals fs (row A i) ≡ None) × (b ≡ free fs (row A i)))
+    (λ f. row_fault (states A) A.signals fs (row A i) ≡ Some f)
+    → r ≡ Ok (free fs (row A i))
+free_answered A F i fs r h e m = by r m
+  where
+    none : row_fault (states A) A.signals fs (row A i) ≡ None
+    none = rw e (row_meets (states A) A.signals [] A.rows i (rows_meet A (meets A F)) h)
+
+    by : (r : Result Bool Fault) → MatchResult r (λ b. (row_fault (states A) A.signals fs (row A i) ≡ None) × (b ≡ free fs (row A i)))
+        (λ f. row_fault (states A) A.signals fs (row A i) ≡ Some f) → r ≡ Ok (free fs (row A i))
+    by (Ok b) m = ap Ok m.1
+    by (Err f) m = let z : None ≡ Some f = sym none ∙ m in cc
 
 module _ (b n : ℕ) where
   -- the pairs of one row more

@@ -1,5 +1,5 @@
 -- From two patterns in tables to two patterns in files.
-use Rattle.std.proofs.Common.{◌≡◌, ℕ, List, is_some, None, Ok, Err, Option, sym, ap, ◌∙◌, subst}
+use Rattle.std.proofs.Common.{◌≡◌, ℕ, true, cond, List, is_ok, is_some, Some, None, Ok, Err, Option, Result, MatchResult, sym, ap, ◌∙◌, subst}
 use Rattle.std.specs.Option.{option_map}
 use Rattle.blocks.specs.Layout.{payload}
 use Rattle.patterns.specs.declared.row.Row.{Row}
@@ -20,15 +20,23 @@ use Rattle.pairs.specs.declared.fault.PairFault.{PairFault}
 use Rattle.pairs.specs.Paired.{Paired}
 use Rattle.pairs.specs.Questions.{pair_fault, files_fault}
 
--- the pattern in the tables that a file was read into is the file's
-pub read_decoded : (A : Automaton) (file old new : List ℕ) (old-rows new-rows : List Row) (h : Heading)
-    → A ≡ fronts_of h new new-rows → h ≡ heading_of (payload file)
-    → new ≡ fronted (decoded (payload file)).roots old → new-rows ≡ fronted (decoded (payload file)).rows old-rows
-    → A ≡ decoded (payload file)
-read_decoded A file old new old-rows new-rows h is g e f =
+-- what a file was read into, where its fault was put under another name: the file is not at fault, and the pattern in the
+-- tables is the file's
+pub reread : (D : Type 0) (A : Automaton) (r : Result Heading TableFault) (h : Heading) (file old new : List ℕ) (old-rows new-rows : List Row)
+    (Q : TableFault → Type 0)
+    → A ≡ fronts_of h new new-rows
+    → MatchResult r (λ x. (read_fault file 64 1024 ≡ None) × (x ≡ heading_of (payload file))) (λ f. read_fault file 64 1024 ≡ Some f)
+    → new ≡ cond (is_ok r) (fronted (decoded (payload file)).roots old) old
+    → new-rows ≡ cond (is_ok r) (fronted (decoded (payload file)).rows old-rows) old-rows
+    → MatchResult r (λ x. ◌≡◌ {A = Result Heading D} (Ok h) (Ok x)) Q
+    → true ≡ is_ok r
+    → (read_fault file 64 1024 ≡ None) × (A ≡ decoded (payload file))
+reread D A (Ok x) h file old new old-rows new-rows Q is c e f m t =
     let p = payload file in
-    is ∙ ap (λ (t : List ℕ). fronts_of h t new-rows) e ∙ ap (fronts_of h (fronted (decoded p).roots old)) f
-    ∙ fronts_decoded p old old-rows h g
+    let q : h ≡ x = cc in
+    (c.0, is ∙ ap (λ (u : List ℕ). fronts_of h u new-rows) e ∙ ap (fronts_of h (fronted (decoded p).roots old)) f
+    ∙ fronts_decoded p old old-rows h (q ∙ c.1))
+reread D A (Err g) h file old new old-rows new-rows Q is c e f m t = absurd (cc)
 
 -- a file that was read holds a pattern
 pub read_formed : (A : Automaton) (file : List ℕ) → read_fault file 64 1024 ≡ None → A ≡ decoded (payload file) → Formed A

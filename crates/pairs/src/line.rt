@@ -1,20 +1,24 @@
 // The line that a program prints for a refusal of two files.
-ghost use Rattle.std.specs.Prelude.{◌≡◌, IfOk, string_bytes};
-ghost use Rattle.files.specs.Lines.{line_of};
+ghost use Rattle.std.specs.Prelude.{◌≡◌, IfOk, Some, string_bytes};
 ghost use Rattle.pairs.specs.Refusals.{pair_line_of};
 
 use crate::fault::FilesFault;
 use std::alloc::{AllocError, Global};
+use std::fmt;
 
 // "refused", the number, the layer and the place of the fault.
+impl fmt::Display for FilesFault {
+    ghost output = { λ fault. Some (pair_line_of fault) };
+
+    fn fmt<W: fmt::Write>(&self, f: &mut fmt::Formatter<W>) -> fmt::Result {
+        let (number, layer, place) = (self.number(), self.layer(), self.place());
+        write!(f, "refused {number} {layer} {place}")
+    }
+}
+
+// The fault as it is printed.
 pub fn pair_line(heap: Global, fault: FilesFault) -> Result<String, AllocError>
     ensures { IfOk result (λ s. string_bytes s ≡ pair_line_of fault) }
 {
-    line(heap, fault.number(), fault.layer(), fault.place())
-}
-
-fn line(heap: Global, number: u8, layer: &str, place: usize) -> Result<String, AllocError>
-    ensures { IfOk result (λ s. string_bytes s ≡ line_of number layer.now place) }
-{
-    format!(in heap; "refused {number} {layer} {place}")
+    format!(in heap; "{fault}")
 }

@@ -10,15 +10,8 @@ use crate::tables::pair_parts;
 use files::heading::Heading;
 use files::reading::read_pattern;
 use patterns::questions::MAX_ROWS;
-use patterns::row;
 use patterns::row::Row;
 use sets::MAX_STATES;
-
-const BLANK: Row = Row {
-    operation: row::FALSE,
-    left: 0,
-    right: 0,
-};
 
 // Reads two pattern files and puts the pattern "later without earlier" into the fronts of the caller's tables, as
 // `pair_tables` does. The earlier entry's file is asked first. A refusal changes nothing.
@@ -33,17 +26,15 @@ pub fn pair_files(
         result roots.old roots.new rows.old rows.new }
 {
     let mut earlier_roots = [0; MAX_STATES];
-    let mut earlier_rows = [BLANK; MAX_ROWS];
-    let earlier_heading = match read_pattern(earlier, &mut earlier_roots, &mut earlier_rows) {
-        Ok(heading) => heading,
-        Err(fault) => return Err(FilesFault::Earlier(fault)),
-    };
+    let mut earlier_rows = [Row::default(); MAX_ROWS];
+    let earlier_heading = read_pattern(earlier, &mut earlier_roots, &mut earlier_rows).map_err(
+        FilesFault::Earlier,
+    )?;
     let mut later_roots = [0; MAX_STATES];
-    let mut later_rows = [BLANK; MAX_ROWS];
-    let later_heading = match read_pattern(later, &mut later_roots, &mut later_rows) {
-        Ok(heading) => heading,
-        Err(fault) => return Err(FilesFault::Later(fault)),
-    };
+    let mut later_rows = [Row::default(); MAX_ROWS];
+    let later_heading = read_pattern(later, &mut later_roots, &mut later_rows).map_err(
+        FilesFault::Later,
+    )?;
     let earlier_parts = earlier_heading.parts(&earlier_roots, &earlier_rows);
     let later_parts = later_heading.parts(&later_roots, &later_rows);
     Ok(pair_parts(later_parts, earlier_parts, roots, rows)?)

@@ -1,22 +1,22 @@
 // "B without A" of two patterns, in the caller's tables.
-ghost use Rattle.std.specs.Prelude.{◌≡◌, ◌+◌, ◌*◌, ◌<◌, ◌≤◌, length, Some, None, MatchResult};
-ghost use Rattle.patterns.specs.Automaton.{read};
+ghost use Rattle.std.specs.Prelude.{◌≡◌, ◌+◌, ◌≤◌, length, Some, None, MatchResult};
+ghost use Rattle.patterns.specs.Automaton.{read, states};
 ghost use Rattle.patterns.specs.Formed.{Formed};
+ghost use Rattle.patterns.specs.Questions.{judged};
 ghost use Rattle.patterns.specs.View.{automaton};
 ghost use Rattle.files.specs.Layout.{fronted};
 ghost use Rattle.duals.specs.Complement.{Fits};
-ghost use Rattle.duals.specs.Without.{without, row_count_of, state_count_of, last_row_of, final_in, larger};
+ghost use Rattle.duals.specs.Without.{without, row_count_of, state_count_of, last_row_of, final_in};
 ghost use Rattle.pairs.specs.Paired.{Paired, pair_heading_of};
 ghost use Rattle.pairs.specs.Questions.{pair_fault};
 
-use crate::dual::{dual_place, dualise};
+use crate::dual::Shift;
 use crate::fault::PairFault;
 use files::heading::Heading;
 use patterns::parts::Parts;
 use patterns::pattern::Pattern;
 use patterns::questions::MAX_ROWS;
-use patterns::row;
-use patterns::row::Row;
+use patterns::row::{Operation, Row};
 use sets::{MAX_STATES, States, add, holds};
 
 // Puts the pattern "later without earlier" into the fronts of the caller's tables, and answers its heading: it accepts
@@ -48,126 +48,143 @@ pub(crate) fn pair_parts(
         (pair_fault (read later.entry) (read earlier.entry) (length roots.old) (length rows.old))
         result roots.old roots.new rows.old rows.new }
 {
-    check_sizes(later, earlier, roots.len(), rows.len())?;
-    fill_roots(later, earlier, roots);
-    fill_rows(later, earlier, rows);
-    Ok(pair_heading(later, earlier))
+    let pair = Pair::sized(later, earlier, roots.len(), rows.len())?;
+    pair.fill_roots(roots);
+    pair.fill_rows(rows);
+    Ok(pair.heading())
 }
 
-// Whether there are at most 64 states and 1,024 rows, and tables of so many roots and rows hold them.
-fn check_sizes(later: Parts, earlier: Parts, roots: usize, rows: usize) -> Result<(), PairFault>
-    requires later { Formed (read later) }
-    requires earlier { Formed (read earlier) }
-    ensures { MatchResult result
-        (λ _. pair_fault (read later.entry) (read earlier.entry) roots rows ≡ None)
-        (λ f. pair_fault (read later.entry) (read earlier.entry) roots rows ≡ Some f) }
-{
-    let state_count = later.roots.len() + earlier.roots.len() + 1;
-    let row_count = later.rows.len() + 2 * earlier.rows.len() + 1;
-    if state_count > MAX_STATES {
-        return Err(PairFault::States);
+// Two patterns, and "later without earlier" has at most 64 states and 1,024 rows.
+#[derive(Clone, Copy)]
+struct Pair<'a> {
+    later: Parts<'a>,
+    earlier: Parts<'a>,
+    ghost later_judged: { judged (read later) ≡ None },
+    ghost earlier_judged: { judged (read earlier) ≡ None },
+    ghost fits: { Fits (read later) (read earlier) },
+}
+
+impl<'a> Pair<'a> {
+    // The pair, unless it has too many states or rows, or tables of so many roots and rows don't hold what it makes.
+    fn sized(
+        later: Parts<'a>,
+        earlier: Parts<'a>,
+        roots: usize,
+        rows: usize,
+    ) -> Result<Pair<'a>, PairFault>
+        requires later { Formed (read later) }
+        requires earlier { Formed (read earlier) }
+        ensures { MatchResult result
+            (λ p. (pair_fault (read later.entry) (read earlier.entry) roots rows ≡ None)
+            × (read p.later ≡ read later.entry) × (read p.earlier ≡ read earlier.entry))
+            (λ f. pair_fault (read later.entry) (read earlier.entry) roots rows ≡ Some f) }
+    {
+        let state_count = later.roots.len() + earlier.roots.len() + 1;
+        let row_count = later.rows.len() + 2 * earlier.rows.len() + 1;
+        if state_count > MAX_STATES {
+            return Err(PairFault::States);
+        }
+        if row_count > MAX_ROWS {
+            return Err(PairFault::Rows);
+        }
+        if state_count > roots || row_count > rows {
+            return Err(PairFault::Room);
+        }
+        Ok(Pair { later, earlier })
     }
-    if row_count > MAX_ROWS {
-        return Err(PairFault::Rows);
-    }
-    if state_count > roots || row_count > rows {
-        return Err(PairFault::Room);
-    }
-    Ok(())
-}
 
-// Writes the roots: the later pattern's, the duals of the earlier one's, and the last row for the state that starts.
-fn fill_roots(later: Parts, earlier: Parts, roots: &mut [u16])
-    requires earlier { Formed (read earlier) }
-    requires fits { Fits (read later) (read earlier) }
-    requires room { state_count_of (read later) (read earlier) + 1 ≤ length roots.old }
-    ensures { roots.new ≡ fronted (without (read later.entry) (read earlier.entry)).roots roots.old }
-{
-    let base = later.rows.len();
-    let first = later.roots.len();
-    copy_front(later.roots, roots);
-    for q in 0..earlier.roots.len() {
-        roots[first + q] = dual_place(base, earlier.roots[q]);
-    }
-    roots[first + earlier.roots.len()] = (base + 2 * earlier.rows.len()) as u16;
-}
-
-// Writes the rows: the later pattern's as they are, the pairs of the earlier one's behind them, and the last row.
-fn fill_rows(later: Parts, earlier: Parts, rows: &mut [Row])
-    requires later { Formed (read later) }
-    requires earlier { Formed (read earlier) }
-    requires fits { Fits (read later) (read earlier) }
-    requires room { row_count_of (read later) (read earlier) + 1 ≤ length rows.old }
-    ensures { rows.new ≡ fronted (without (read later.entry) (read earlier.entry)).rows rows.old }
-{
-    let base = later.rows.len();
-    copy_front(later.rows, rows);
-    dualise(&mut rows[base..], earlier, base, later.roots.len());
-    rows[base + 2 * earlier.rows.len()] = last_row(later, earlier);
-}
-
-// The condition of the state that starts: the later pattern's start and the dual of the earlier one's at once.
-fn last_row(later: Parts, earlier: Parts) -> Row
-    requires later { Formed (read later) }
-    requires earlier { Formed (read earlier) }
-    ensures { result ≡ last_row_of (read later.entry) (read earlier.entry) }
-{
-    Row {
-        operation: row::AND,
-        left: later.roots[later.start as usize],
-        right: dual_place(later.rows.len(), earlier.roots[earlier.start as usize]),
-    }
-}
-
-// All of the pattern but its tables.
-fn pair_heading(later: Parts, earlier: Parts) -> Heading
-    requires { Fits (read later) (read earlier) }
-    ensures { result ≡ pair_heading_of (read later.entry) (read earlier.entry) }
-{
-    let start = later.roots.len() + earlier.roots.len();
-    let rows = later.rows.len() + 2 * earlier.rows.len() + 1;
-    Heading {
-        states: (start + 1) as u8,
-        signals: larger_count(later.signals, earlier.signals),
-        start: start as u8,
-        rows: rows as u16,
-        finals: pair_finals(later, earlier),
-    }
-}
-
-// The larger of two numbers of signals.
-fn larger_count(count: u8, other: u8) -> u8
-    ensures { result ≡ larger count other }
-{
-    if count < other { other } else { count }
-}
-
-// The final states, found one by one.
-fn pair_finals(later: Parts, earlier: Parts) -> States
-    requires { state_count_of (read later) (read earlier) + 1 ≤ 64 }
-    ensures { result ≡ (without (read later.entry) (read earlier.entry)).finals }
-{
-    let mut finals = 0;
-    for q in 0..later.roots.len() + earlier.roots.len() + 1 {
-        if is_final(later, earlier, q) {
-            finals = add(finals, q);
+    // Where the earlier pattern's rows and states go.
+    fn shift(self) -> Shift
+        ensures base { result.base ≡ length (read self.entry.later).rows }
+        ensures states { result.states ≡ states (read self.entry.later) }
+    {
+        Shift {
+            base: self.later.rows.len(),
+            states: self.later.roots.len(),
         }
     }
-    finals
-}
 
-// Whether a state is final: as in the later pattern, opposite to the earlier one, and for the state that starts both.
-fn is_final(later: Parts, earlier: Parts, q: usize) -> bool
-    requires { state_count_of (read later) (read earlier) + 1 ≤ 64 }
-    ensures { result ≡ final_in (read later.entry) (read earlier.entry) q }
-{
-    let first = later.roots.len();
-    if q < first {
-        holds(later.finals, q)
-    } else if q < first + earlier.roots.len() {
-        !holds(earlier.finals, q - first)
-    } else {
-        holds(later.finals, later.start as usize) && !holds(earlier.finals, earlier.start as usize)
+    // Writes the roots: the later pattern's, the duals of the earlier one's, and the last row for the state that starts.
+    fn fill_roots(self, roots: &mut [u16])
+        requires { state_count_of (read self.later) (read self.earlier) + 1 ≤ length roots.old }
+        ensures { roots.new ≡ fronted (without (read self.entry.later) (read self.entry.earlier)).roots roots.old }
+    {
+        let shift = self.shift();
+        copy_front(self.later.roots, roots);
+        for (q, root) in self.earlier.roots.iter().enumerate() {
+            roots[shift.states + q] = shift.dual_place(*root);
+        }
+        roots[shift.states + self.earlier.roots.len()] = (shift.base
+            + 2 * self.earlier.rows.len()) as u16;
+    }
+
+    // Writes the rows: the later pattern's as they are, the pairs of the earlier one's behind them, and the last row.
+    fn fill_rows(self, rows: &mut [Row])
+        requires { row_count_of (read self.later) (read self.earlier) + 1 ≤ length rows.old }
+        ensures { rows.new ≡ fronted (without (read self.entry.later) (read self.entry.earlier)).rows rows.old }
+    {
+        let base = self.later.rows.len();
+        copy_front(self.later.rows, rows);
+        self.shift().dualise(&mut rows[base..], self.earlier);
+        rows[base + 2 * self.earlier.rows.len()] = self.last_row();
+    }
+
+    // The condition of the state that starts: the later pattern's start and the dual of the earlier one's at once.
+    fn last_row(self) -> Row
+        ensures { result ≡ last_row_of (read self.entry.later) (read self.entry.earlier) }
+    {
+        Row {
+            operation: Operation::And as u8,
+            left: self.later.roots[self.later.start as usize],
+            right: self
+                .shift()
+                .dual_place(self.earlier.roots[self.earlier.start as usize]),
+        }
+    }
+
+    // All of the pattern but its tables.
+    fn heading(self) -> Heading
+        ensures { result ≡ pair_heading_of (read self.entry.later) (read self.entry.earlier) }
+    {
+        let start = self.later.roots.len() + self.earlier.roots.len();
+        let rows = self.later.rows.len() + 2 * self.earlier.rows.len() + 1;
+        Heading {
+            states: (start + 1) as u8,
+            signals: self.later.signals.max(self.earlier.signals),
+            start: start as u8,
+            rows: rows as u16,
+            finals: self.finals(),
+        }
+    }
+
+    // The final states, found one by one.
+    // Stays: (d) a fold's closure would have to be told that each state is below 64, which this loop shows.
+    fn finals(self) -> States
+        ensures { result ≡ (without (read self.entry.later) (read self.entry.earlier)).finals }
+    {
+        let mut finals = 0;
+        for q in 0..self.later.roots.len() + self.earlier.roots.len() + 1 {
+            if self.is_final(q) {
+                finals = add(finals, q);
+            }
+        }
+        finals
+    }
+
+    // Whether a state is final: as in the later pattern, opposite to the earlier one, and for the state that starts both.
+    fn is_final(self, q: usize) -> bool
+        ensures { result ≡ final_in (read self.entry.later) (read self.entry.earlier) q }
+    {
+        let (later, earlier) = (self.later, self.earlier);
+        let first = later.roots.len();
+        if q < first {
+            holds(later.finals, q)
+        } else if q < first + earlier.roots.len() {
+            !holds(earlier.finals, q - first)
+        } else {
+            holds(later.finals, later.start as usize)
+                && !holds(earlier.finals, earlier.start as usize)
+        }
     }
 }
 

@@ -8,7 +8,7 @@ ghost use Rattle.search.specs.Like.{OrderFree};
 use kinds::{Kind, Move};
 
 // A row of the table of finds: a configuration, and how the search came to it.
-#[derive(Clone, Copy)]
+#[derive(Clone, Copy, PartialEq, Eq, Debug)]
 pub struct Find<C> {
     pub configuration: C,
     // The row that it came from; 0 for a first configuration.

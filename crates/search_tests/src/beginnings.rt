@@ -30,11 +30,7 @@ impl<'a> Kind for Beginnings<'a> {
     }
 
     fn first(&self, i: usize) -> Option<u64> {
-        if i < self.firsts.len() {
-            Some(self.firsts[i])
-        } else {
-            None
-        }
+        self.firsts.get(i).copied()
     }
 
     fn moves(&self) -> Move {

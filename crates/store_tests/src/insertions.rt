@@ -6,11 +6,11 @@ use stores::list::ListStore;
 use stores::refusals::Refused;
 use stores::{Store, insert_new};
 
-// An insertion, the number of its refusal or 0 for none, and the spots that are held after it.
+// An insertion, the number of its refusal if it is refused, and the spots that are held after it.
 #[derive(Clone, Copy)]
 struct Insertion<'a> {
     x: Spot,
-    number: u8,
+    refusal: Option<u8>,
     held: &'a [Spot],
 }
 
@@ -22,26 +22,18 @@ fn spot(place: u8, set: u8) -> Spot {
     }
 }
 
-fn put(x: Spot, number: u8, held: &[Spot]) -> Insertion<'_> {
-    Insertion { x, number, held }
+fn put(x: Spot, refusal: Option<u8>, held: &[Spot]) -> Insertion<'_> {
+    Insertion { x, refusal, held }
 }
 
 // Makes the insertions one after the other, and sees that each has its answer and leaves what it should.
 fn run<S: Store<Spots>>(rt: &impl Abort, store: &mut S, insertions: &[Insertion]) {
     let maximum = store.maximum();
     for insertion in insertions {
-        let (number, place) = told(store.insert(&Spots, insertion.x));
-        assert_eq!(rt; number, insertion.number);
-        assert_eq!(rt; place, 0);
+        let refused = store.insert(&Spots, insertion.x).err();
+        assert_eq!(rt; refused.map(|refused| refused.number()), insertion.refusal);
+        assert_eq!(rt; refused.map_or(0, |refused| refused.place()), 0);
         holds_exactly(rt, store, maximum, insertion.held);
-    }
-}
-
-// Number and place of the refusal, or twice 0 where there is none.
-fn told(answer: Result<(), Refused>) -> (u8, usize) {
-    match answer {
-        Ok(()) => (0, 0),
-        Err(refused) => (refused.number(), refused.place()),
     }
 }
 
@@ -64,21 +56,12 @@ fn holds_exactly<S: Store<Spots>>(rt: &impl Abort, store: &S, maximum: usize, he
 }
 
 fn some_covers(held: &[Spot], x: Spot) -> bool {
-    for y in held {
-        if y.place == x.place && y.set | x.set == y.set {
-            return true;
-        }
-    }
-    false
+    held.iter()
+        .any(|y| y.place == x.place && y.set | x.set == y.set)
 }
 
 fn some_is(held: &[Spot], x: Spot) -> bool {
-    for y in held {
-        if y.place == x.place && y.set == x.set {
-            return true;
-        }
-    }
-    false
+    held.iter().any(|y| y.place == x.place && y.set == x.set)
 }
 
 // A list over no rows holds nothing and refuses everything.
@@ -91,7 +74,10 @@ fn no_rows(rt: HostRuntime) {
     run(
         &rt,
         &mut store,
-        &[put(spot(0, 0), 17, &none), put(spot(1, 15), 17, &none)],
+        &[
+            put(spot(0, 0), Some(17), &none),
+            put(spot(1, 15), Some(17), &none),
+        ],
     );
     assert_eq!(rt;
         insert_new(&mut store, &Spots, spot(0, 0)),
@@ -111,7 +97,10 @@ fn rows_with_contents(rt: HostRuntime) {
     run(
         &rt,
         &mut store,
-        &[put(spot(1, 3), 0, &held[0..1]), put(spot(0, 15), 0, &held)],
+        &[
+            put(spot(1, 3), None, &held[0..1]),
+            put(spot(0, 15), None, &held),
+        ],
     );
 }
 
@@ -125,21 +114,21 @@ fn to_the_maximum(rt: HostRuntime) {
         &rt,
         &mut store,
         &[
-            put(spot(0, 1), 0, &full[0..1]),
-            put(spot(0, 1), 16, &full[0..1]),
-            put(spot(0, 6), 0, &full[0..2]),
-            put(spot(0, 2), 16, &full[0..2]),
-            put(spot(1, 1), 0, &full),
+            put(spot(0, 1), None, &full[0..1]),
+            put(spot(0, 1), Some(16), &full[0..1]),
+            put(spot(0, 6), None, &full[0..2]),
+            put(spot(0, 2), Some(16), &full[0..2]),
+            put(spot(1, 1), None, &full),
             // not covered
-            put(spot(0, 8), 17, &full),
+            put(spot(0, 8), Some(17), &full),
             // not covered, and would drop two
-            put(spot(0, 7), 17, &full),
+            put(spot(0, 7), Some(17), &full),
             // covered at the other place alone
-            put(spot(1, 2), 17, &full),
+            put(spot(1, 2), Some(17), &full),
             // covered
-            put(spot(0, 4), 16, &full),
-            put(spot(1, 1), 16, &full),
-            put(spot(1, 0), 16, &full),
+            put(spot(0, 4), Some(16), &full),
+            put(spot(1, 1), Some(16), &full),
+            put(spot(1, 0), Some(16), &full),
         ],
     );
 }
@@ -160,20 +149,20 @@ fn drops(rt: HostRuntime) {
         &rt,
         &mut store,
         &[
-            put(spot(0, 0), 0, &least),
+            put(spot(0, 0), None, &least),
             // the only one
-            put(spot(0, 1), 0, &low[0..1]),
+            put(spot(0, 1), None, &low[0..1]),
             // none
-            put(spot(0, 2), 0, &low[0..2]),
-            put(spot(1, 3), 0, &low),
+            put(spot(0, 2), None, &low[0..2]),
+            put(spot(1, 3), None, &low),
             // one
-            put(spot(0, 9), 0, &first),
-            put(spot(0, 13), 0, &last),
-            put(spot(1, 7), 0, &middle),
+            put(spot(0, 9), None, &first),
+            put(spot(0, 13), None, &last),
+            put(spot(1, 7), None, &middle),
             // all at one place, and that at the other stays
-            put(spot(0, 15), 0, &high),
-            put(spot(0, 13), 16, &high),
-            put(spot(1, 15), 0, &highest),
+            put(spot(0, 15), None, &high),
+            put(spot(0, 13), Some(16), &high),
+            put(spot(1, 15), None, &highest),
         ],
     );
 }
@@ -189,13 +178,13 @@ fn worked_example(rt: HostRuntime) {
         &rt,
         &mut store,
         &[
-            put(spot(0, 1), 0, &before[0..1]),
-            put(spot(0, 6), 0, &before),
-            put(spot(0, 2), 16, &before),
-            put(spot(0, 9), 0, &after[0..2]),
-            put(spot(1, 6), 0, &after),
-            put(spot(0, 15), 17, &after),
-            put(spot(0, 8), 16, &after),
+            put(spot(0, 1), None, &before[0..1]),
+            put(spot(0, 6), None, &before),
+            put(spot(0, 2), Some(16), &before),
+            put(spot(0, 9), None, &after[0..2]),
+            put(spot(1, 6), None, &after),
+            put(spot(0, 15), Some(17), &after),
+            put(spot(0, 8), Some(16), &after),
         ],
     );
     assert_eq!(rt; store.covers(&Spots, spot(0, 8)), true);
@@ -219,8 +208,8 @@ fn equivalents(rt: HostRuntime) {
         &rt,
         &mut store,
         &[
-            put(marked, 0, &both[0..1]),
-            put(spot(0, 5), 16, &both[0..1]),
+            put(marked, None, &both[0..1]),
+            put(spot(0, 5), Some(16), &both[0..1]),
         ],
     );
     assert_eq!(rt; insert_new(&mut store, &Spots, spot(0, 5)), Ok(false));

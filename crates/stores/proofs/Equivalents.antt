@@ -1,13 +1,10 @@
--- Configurations that are within each other: where a list has one alike, and the search for it. Assumes nothing.
-use Rattle.std.proofs.Common.{◌≡◌, ℕ, zero, suc, true, List, [], ◌∷◌, length, is_some, Some, None, Option, sym, refl, ap, ◌∙◌, inl, inr}
+-- Configurations that are within each other: where a list has one alike, and that it is covered. Assumes nothing.
+use Rattle.std.proofs.Common.{◌≡◌, ℕ, zero, suc, true, List, [], ◌∷◌, Some, refl, ap, ◌∙◌, inl, inr}
 use Rattle.std.specs.List.{slice_get}
-use Rattle.std.proofs.lemmas.Option.{slice_get_within}
-use Rattle.std.proofs.lemmas.Bool.{false≢true, both_ways, and_parts, or_cases, or_left, or_right}
+use Rattle.std.proofs.lemmas.Bool.{false≢true, and_parts, or_cases, or_left, or_right}
 use Rattle.kinds.specs.Shape.{Shape}
-use Rattle.kinds.specs.Earliest.{Earliest}
 use Rattle.kinds.specs.Certificate.{covered}
-use Rattle.kinds.proofs.Values.{none_some, false_if_not_true}
-use Rattle.kinds.proofs.Searches.{hit, missed}
+use Rattle.kinds.proofs.Values.{none_some}
 use Rattle.kinds.proofs.Covering.{entry_covers}
 use Rattle.stores.specs.Holding.{alike}
 use Rattle.stores.specs.Equivalence.{equivalent}
@@ -26,14 +23,6 @@ module _ {C : Type 0} (s : Shape C) (x : C) where
   entry_alike [] i y e m = none_some refl e
   entry_alike (v ∷ vs) zero y e m = let q : v ≡ y = cc in or_left (equivalent s x v) (alike s vs x) (ap (equivalent s x) q ∙ m)
   entry_alike (v ∷ vs) (suc i) y e m = or_right (equivalent s x v) (alike s vs x) (entry_alike vs i y e m)
-
-  -- a search for an entry alike finds one exactly if the list has one
-  pub found_alike : (xs : List C) (r : Option ℕ) → Earliest (equivalent s x) true xs r → is_some r ≡ alike s xs x
-  found_alike xs None h = sym (false_if_not_true (alike s xs x) (λ t.
-      let e = alike_entry xs t in
-      let l = slice_get_within xs e.0 e.1 e.2 in
-      both_ways (equivalent s x e.1) (missed (equivalent s x) true xs (length xs) h e.0 e.1 l e.2) e.3))
-  found_alike xs (Some i) h = let e = hit (equivalent s x) true xs i h.0 h.1 in sym (entry_alike xs i e.0 e.1 e.2)
 
   -- what is held is covered
   pub alike_covered : (xs : List C) → alike s xs x ≡ true → covered s xs x ≡ true

@@ -1,5 +1,5 @@
 -- What a store covers once a configuration was put in or found covered: what it covered, and what that one covers. Assumes nothing.
-use Rattle.std.proofs.Common.{◌≡◌, ℕ, Bool, true, false, cond, ◌||◌, ltb, List, length, IfOk, Some, Ok, Err, Result, sym, refl, ap, ◌∙◌, subst, inl, ⊎_elim, arith}
+use Rattle.std.proofs.Common.{◌≡◌, ℕ, Bool, true, false, ◌||◌, List, Some, sym, refl, ap, ◌∙◌, inl, ⊎_elim, arith}
 use Rattle.std.specs.List.{slice_get}
 use Rattle.std.proofs.lemmas.Bool.{or_cases, or_right}
 use Rattle.kinds.specs.Shape.{Shape}
@@ -7,10 +7,7 @@ use Rattle.kinds.specs.Laws.{Laws}
 use Rattle.kinds.specs.Certificate.{covered}
 use Rattle.kinds.proofs.Values.{false_if_not_true}
 use Rattle.kinds.proofs.Covering.{covered_within}
-use Rattle.stores.specs.declared.refusals.Refused.{Refused}
-use Rattle.stores.specs.declared.refusals.Refused.TheVariants.{Full}
 use Rattle.stores.specs.Holding.{Reordered, inserted, alike}
-use Rattle.stores.specs.Admission.{answered_new, IfPut}
 use Rattle.stores.specs.Growth.{Grows}
 use Rattle.stores.proofs.Reorderings.{reordered_length, reordered_entry, covered_reordered, alike_reordered}
 use Rattle.stores.proofs.Insertions.{inserted_itself, inserted_from, inserted_length, inserted_covers, inserted_covers_only, inserted_keeps, inserted_alike}
@@ -19,12 +16,6 @@ use Rattle.stores.proofs.Insertions.{inserted_itself, inserted_from, inserted_le
 same_test : (a b : Bool) → (a ≡ true → b ≡ true) → (b ≡ true → a ≡ true) → a ≡ b
 same_test true b f g = sym (f refl)
 same_test false b f g = sym (false_if_not_true b (λ t. absurd (let z : false ≡ true = g t in let n : ◌≡◌ {A = ℕ} 0 1 = cc in omega arith)))
-
--- where x was not put in, it was covered
-covered_if_not_put : (b c : Bool) → ◌≡◌ {A = Result Bool Refused} (Ok false) (cond b (Ok false) (cond c (Ok true) (Err Full))) → b ≡ true
-covered_if_not_put true c e = refl
-covered_if_not_put false true e = let z : ◌≡◌ {A = ℕ} 0 1 = cc in absurd (omega arith)
-covered_if_not_put false false e = let z : ◌≡◌ {A = ℕ} 0 1 = cc in absurd (omega arith)
 
 module _ {C : Type 0} (s : Shape C) (laws : Laws s) (x : C) (h : List C) where
   -- where x was put in
@@ -61,12 +52,3 @@ module _ {C : Type 0} (s : Shape C) (laws : Laws s) (x : C) (h : List C) where
   -- what was put in is held
   pub put_alike : (h' : List C) → Reordered (inserted s x h) h' → s.fits x ≡ true → alike s h' x ≡ true
   put_alike h' r fx = sym (alike_reordered s x r) ∙ inserted_alike s x laws fx h
-
--- so whichever it was, for stores of any type
-module _ {C T : Type 0} (s : Shape C) (laws : Laws s) (x : C) (n : ℕ) (held : T → List C) (before after : T) where
-  pub grown_new : (r : Result Bool Refused) → r ≡ answered_new s x (held before) n → IfPut r (Reordered (inserted s x (held before)) (held after)) (after ≡ before) → IfOk r (λ _. Grows s x (held before) (held after))
-  grown_new (Ok true) e p = grown_inserted s laws x (held before) (held after) p
-  grown_new (Ok false) e p =
-      subst (λ (h : List C). Grows s x (held before) h) (sym (ap held p))
-      (grown_covered s laws x (held before) (covered_if_not_put (covered s (held before) x) (ltb (length (held before)) n) e))
-  grown_new (Err f) e p = tt

@@ -1,17 +1,9 @@
--- The rows of a list: how many are in use, and what an insertion leaves in them. Assumes nothing.
-use Rattle.std.proofs.Common.{◌≡◌, ℕ, ◌+◌, ◌<◌, ◌≤◌, min, Bool, true, false, cond, not, List, [], ◌∷◌, ◌++◌, length, take, set, filter, sym, refl, ap, ◌∙◌, ⊎_elim, arith}
-use Rattle.std.proofs.lemmas.Bool.{cases_lt}
-use Rattle.std.proofs.lemmas.List.{take_all, take_more_set}
+-- The rows of a list: what an insertion leaves in them. Assumes nothing.
+use Rattle.std.proofs.Common.{◌≡◌, ℕ, ◌+◌, ◌<◌, Bool, true, false, cond, not, List, [], ◌∷◌, ◌++◌, length, take, set, filter, refl, ap, ◌∙◌}
+use Rattle.std.proofs.lemmas.List.{take_more_set}
 use Rattle.std.proofs.lemmas.List.Filters.{FiltersInPlace}
 use Rattle.kinds.specs.Shape.{Shape}
 use Rattle.stores.specs.Holding.{dropped, inserted}
-
--- no more entries are taken than there are
-pub take_clamped : {X : Type 0} (n : ℕ) (xs : List X) → take (min n (length xs)) xs ≡ take n xs
-take_clamped n xs = ⊎_elim
-    (λ (l : n < length xs). let m : min n (length xs) ≡ n = omega arith in ap (λ (k : ℕ). take k xs) m)
-    (λ (l : length xs ≤ n). let m : length xs ≤ min n (length xs) = omega arith in take_all (min n (length xs)) xs m ∙ sym (take_all n xs l))
-    (cases_lt n (length xs))
 
 module _ {C : Type 0} (s : Shape C) (x : C) where
   -- what x does not cover is what is left once all that it covers is dropped

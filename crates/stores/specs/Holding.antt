@@ -5,9 +5,10 @@
 -- dropped s x h     h without all that x covers
 -- inserted s x h    what is held once x is put in: all that x covers is dropped
 -- alike s h x       whether some held configuration and x are within each other
-use Rattle.std.specs.Prelude.{◌≡◌, ℕ, Bool, false, cond, ◌&&◌, ◌||◌, ◌≢◌, List, [], ◌∷◌, ◌++◌, Some}
-use Rattle.std.specs.List.{slice_get}
+use Rattle.std.specs.Prelude.{◌≡◌, ℕ, Bool, false, cond, ◌≢◌, List, [], ◌∷◌, ◌++◌, Some}
+use Rattle.std.specs.List.{slice_get, list_any}
 use Rattle.kinds.specs.Shape.{Shape}
+use Rattle.stores.specs.Equivalence.{equivalent}
 
 pub data Reordered {X : Type 0} : List X → List X → Type 0 where
   none : Reordered [] []
@@ -27,5 +28,4 @@ module _ {C : Type 0} (s : Shape C) where
   inserted x h = dropped x h ++ x ∷ []
 
   abbrev pub alike : List C → C → Bool
-  alike [] x = false
-  alike (y ∷ ys) x = (s.within x y && s.within y x) || alike ys x
+  alike h x = list_any (equivalent s x) h

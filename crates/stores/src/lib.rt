@@ -74,20 +74,6 @@ pub fn insert_new<K: Kind, S: Store<K>>(
     ensures ok { OnOk result (Grows (K.shape kind.now) x (S.held store.old) (S.held store.new)) }
     ensures test { result ≡ Ok true → (K.shape kind.now).fits x ≡ true → alike (K.shape kind.now) (S.held store.new) x ≡ true }
 {
-    put_uncovered(store, kind, x)
-}
-
-// Puts x in unless it is covered already, and answers whether it was put in.
-fn put_uncovered<K: Kind, S: Store<K>>(
-    store: &mut S,
-    kind: &K,
-    x: K::Config,
-) -> Result<bool, Refused>
-    ensures value { result ≡ answered_new (K.shape kind.now) x (S.held store.old) (S.limit store.old) }
-    ensures items { IfPut result (Reordered (inserted (K.shape kind.now) x (S.held store.old)) (S.held store.new)) (store.new ≡ store.old) }
-    ensures limit { S.limit store.new ≡ S.limit store.old }
-    ensures apart { Apart (K.shape kind.now) (S.held store.old) → Apart (K.shape kind.now) (S.held store.new) }
-{
     if store.covers(kind, x) {
         return Ok(false);
     }

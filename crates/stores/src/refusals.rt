@@ -27,8 +27,7 @@ impl Refused {
         ensures { result ≡ (number_and_place self.now).1 }
     {
         match *self {
-            Refused::Covered => 0,
-            Refused::Full => 0,
+            Refused::Covered | Refused::Full => 0,
         }
     }
 }

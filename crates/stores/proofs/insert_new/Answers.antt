@@ -1,19 +1,19 @@
-use Rattle.stores.proofs.Growth.{grown_new, put_alike}
+use Rattle.stores.proofs.Growth.{grown_inserted, grown_covered, put_alike}
 use Rattle.stores.proofs.insert_new.Goals as goal
 
-pub returns : goal.returns
-returns g c =
-    let s = g.K.Kind.shape c.args.kind.now in
-    let laws = g.K.Kind.laws c.args.kind.now in
+pub returns-then-covers-clause-ok : goal.returns-then-covers-clause-ok
+returns-then-covers-clause-ok g c =
+    let kind = c.args.kind.now in
+    grown_covered (g.K.Kind.shape kind) (g.K.Kind.laws kind) c.args.x (g.S.Store.held c.args.store.now) (cc)
+
+pub returns-clause-ok : goal.returns-clause-ok
+returns-clause-ok g c =
+    let kind = c.args.kind.now in
     let held = g.S.Store.held in
-    let before = c.args.store.now in
-    let after = c.put_uncovered.new.store in
-    let p = c.put_uncovered.ensures in
-    record {
-      value = p.value;
-      items = p.items;
-      limit = p.limit;
-      apart = p.apart;
-      ok = grown_new s laws c.args.x (g.S.Store.limit before) held before after c.put_uncovered.result p.value p.items;
-      test = λ e. put_alike s laws c.args.x (held before) (held after) (rw e at p.items);
-    }
+    grown_inserted (g.K.Kind.shape kind) (g.K.Kind.laws kind) c.args.x (held c.args.store.now) (held c.insert.new.self) c.in_ok-insert.ensures.items
+
+pub returns-clause-test : goal.returns-clause-test
+returns-clause-test g c =
+    let kind = c.args.kind.now in
+    let held = g.S.Store.held in
+    λ _. put_alike (g.K.Kind.shape kind) (g.K.Kind.laws kind) c.args.x (held c.args.store.now) (held c.insert.new.self) c.in_ok-insert.ensures.items

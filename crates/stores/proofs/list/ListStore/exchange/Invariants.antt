@@ -1,6 +1,6 @@
 use Rattle.std.proofs.Common.{not}
 use Rattle.std.proofs.lemmas.List.Filters.{FiltersInPlace}
-use Rattle.stores.proofs.list.exchange.Given as goal
+use Rattle.stores.proofs.list.ListStore.exchange.Given as goal
 
 -- the rows before this one that x does not cover stand in front
 abbrev pub invariant-loop-i : goal.invariant-loop-i

@@ -1,52 +1,38 @@
-use Rattle.std.proofs.Common.{◌≡◌, ℕ, ◌+◌, ◌-◌, ◌*◌, ◌<◌, ◌≤◌, Bool, List, [], ◌∷◌, ◌++◌, length, get_or, take, set, sym, ap, ◌∙◌, arith, length-set}
+use Rattle.std.proofs.Common.{◌≡◌, ℕ, ◌+◌, ◌*◌, ◌<◌, Bool, List, [], ◌∷◌, ◌++◌, length, get_or, take, set, Ok, sym, refl, ap, ◌∙◌, arith, length-set}
 use Rattle.std.proofs.lemmas.List.{take_more_set, take_all, length-take-le, length_push}
 use Rattle.std.proofs.lemmas.List.Sums.{fold_more}
 use Rattle.patterns.specs.declared.row.Row.{Row}
-use Rattle.patterns.specs.Automaton.{read, row, blank}
-use Rattle.patterns.specs.Questions.{ordered, free, free_step}
-use Rattle.patterns.proofs.Meeting.{operands_before}
+use Rattle.patterns.specs.Automaton.{read, blank}
+use Rattle.patterns.specs.Questions.{free, free_step}
 use Rattle.files.specs.Layout.{fronted}
 use Rattle.duals.specs.Dual.{dual_rows, row_copy, row_dual}
 use Rattle.duals.proofs.Marked.{length_dual_rows}
 use Rattle.pairs.proofs.Fronts.{front_push}
-use Rattle.pairs.proofs.Pairs.{pairs_more, operands_small}
-use Rattle.pairs.proofs.dual.dualise.Goals as goal
+use Rattle.pairs.proofs.Pairs.{free_answered, pairs_more, operands_small}
+use Rattle.pairs.proofs.dual.Shift.dualise.Goals as goal
 
--- `&frees[0..i]` as the checker reads it
-part : (i : ℕ) (t : List Bool) → take (i - 0) t ≡ take i t
-part i t = let z : i - 0 ≡ i = omega arith in ap (λ (k : ℕ). take k t) z
-
-part_length : (i : ℕ) (t : List Bool) → i ≤ length t → length (take (i - 0) t) ≡ i
-part_length i t h = ap length (part i t) ∙ length-take-le i t h
-
-pub is_free-free-requires : goal.is_free-free-requires
-is_free-free-requires c =
-    let A = read c.args.earlier in
+pub unwrap-free-requires : goal.unwrap-free-requires
+unwrap-free-requires c =
     let i = c.loop-i.i in
-    let h : i < length A.rows = c.loop-i-test.true in
-    let n = c.requires.formed.few_rows in
-    let l = c.loop-i.invariant.0 in
-    ap (λ (k : ℕ). ordered k (row A i)) (part_length i c.loop-i.frees (omega arith))
-    ∙ operands_before A i (row A i) (c.requires.formed.proper i h)
+    let t = c.loop-i.frees in
+    rw (free_answered (read c.args.earlier) c.requires.formed i (take i t) c.check_row.result c.loop-i-test.true
+    c.loop-i.invariant.1 c.check_row.ensures) refl
 
 pub copy_of-requires : goal.copy_of-requires
-copy_of-requires c = record {
-  small = operands_small (read c.args.earlier) c.requires.formed c.loop-i.i c.loop-i-test.true;
-  few = c.requires.few.0;
-}
+copy_of-requires c = operands_small (read c.args.earlier) c.requires.formed c.loop-i.i c.loop-i-test.true
 
 pub dual_of-requires : goal.dual_of-requires
 dual_of-requires c =
     let s = operands_small (read c.args.earlier) c.requires.formed c.loop-i.i c.loop-i-test.true in
     let n = c.requires.formed.few_rows in
     let h = c.loop-i-test.true in
-    record { small = (s.0, s.1, omega arith); few = c.requires.few }
+    (s.0, s.1, omega arith)
 
 pub loop-i-preserved : goal.loop-i-preserved
 loop-i-preserved c =
     let rs = (read c.args.earlier).rows in
-    let b = c.args.base in
-    let n = c.args.states in
+    let b = c.args.self.base in
+    let n = c.args.self.states in
     let i = c.loop-i.i in
     let t = c.loop-i.frees in
     let old = c.args.rows.now in
@@ -56,8 +42,11 @@ loop-i-preserved c =
     let m : length t ≡ 1024 = c.loop-i.invariant.0 in
     let l : i < length t = omega arith in
     let r = get_or rs i blank in
-    let f = c.is_free-free.result in
-    let ef : f ≡ free (take i t) r = c.is_free-free.ensures ∙ ap (λ (vs : List Bool). free vs r) (part i t) in
+    let f = c.unwrap-free.result in
+    let answered : c.check_row.result ≡ Ok (free (take i t) r) =
+    free_answered (read c.args.earlier) c.requires.formed i (take i t) c.check_row.result h
+    c.loop-i.invariant.1 c.check_row.ensures in
+    let ef : f ≡ free (take i t) r = cc in
     let xs = dual_rows b n [] (take i rs) in
     let x = row_copy b (free (take i t) r) r in
     let y = row_dual b n i (free (take i t) r) r in
@@ -82,5 +71,5 @@ pub returns : goal.returns
 returns c =
     let rs = (read c.args.earlier).rows in
     c.loop-i.invariant.2
-    ∙ ap (λ (qs : List Row). fronted (dual_rows c.args.base c.args.states [] qs) c.args.rows.now)
+    ∙ ap (λ (qs : List Row). fronted (dual_rows c.args.self.base c.args.self.states [] qs) c.args.rows.now)
     (take_all c.loop-i.i rs c.loop-i-test.false)

@@ -2,13 +2,14 @@ use Rattle.std.proofs.Common.{ℕ, ◌+◌, ap, ◌∙◌}
 use Rattle.files.specs.declared.heading.Heading.{Heading}
 use Rattle.patterns.specs.Automaton.{read}
 use Rattle.duals.specs.Without.{without, row_count_of, state_count_of}
-use Rattle.pairs.proofs.tables.pair_heading.Goals as goal
+use Rattle.pairs.proofs.Pairs.{larger_is}
+use Rattle.pairs.proofs.tables.Pair.heading.Goals as goal
 
 pub returns : goal.returns
 unfolding without
 returns c =
-    let B = read c.args.later in
-    let A = read c.args.earlier in
+    let B = read c.args.self.later in
+    let A = read c.args.self.earlier in
     let made : ℕ → ℕ → Heading = λ m d. record {
       states = state_count_of B A + 1;
       signals = m;
@@ -16,5 +17,5 @@ returns c =
       rows = row_count_of B A + 1;
       finals = d;
     } in
-    ap (λ (m : ℕ). made m c.pair_finals.result) c.larger_count.ensures
-    ∙ ap (made (without B A).signals) c.pair_finals.ensures
+    ap (λ (m : ℕ). made m c.finals.result) (c.max.ensures ∙ larger_is c.args.self.later.signals c.args.self.earlier.signals)
+    ∙ ap (made (without B A).signals) c.finals.ensures
