@@ -11,8 +11,10 @@ use Rattle.search.proofs.Counting.{queried_ended, queried_more}
 use Rattle.search.proofs.Orders.{like_refl, like_trans, query_like, queried_like, promise_like}
 use Rattle.search.proofs.Promises.{keeps_promise}
 use Rattle.checks.specs.declared.counts.Counts.{Counts}
+use Rattle.checks.specs.declared.states.Running.{Running}
 use Rattle.checks.specs.declared.states.Progress.{Progress}
-use Rattle.checks.specs.View.{counts_of}
+use Rattle.checks.specs.declared.states.Progress.TheVariants as progress
+use Rattle.checks.specs.View.{counts_of, verdict_of}
 use Rattle.checks.specs.Calls.{Answered, Kept, Stands}
 use Rattle.checks.proofs.Stepping.{nth_taken}
 
@@ -33,6 +35,13 @@ drop_past {A = A} xs ys m k le e =
         whole (v ∷ vs) = refl
     both [] (suc m) j = nothing (suc m + j) ∙ sym (nothing j)
     both (v ∷ vs) (suc m) j = let q : suc m + j ≡ suc (m + j) = omega arith in ap (λ (i : ℕ). drop i (v ∷ vs)) q ∙ both vs m j
+
+-- a check that is not running has a verdict
+pub has_ended : (p : Progress) → ((r : Running) → p ≡ progress.Running r → ⊥) → is_some (verdict_of p) ≡ true
+has_ended (progress.Running r) n = absurd (n r refl)
+has_ended (progress.Matched r) n = refl
+has_ended (progress.Never r) n = refl
+has_ended (progress.Full r) n = refl
 
 module _ {C : Type 0} where
   pub kept_same : (n : Counts) (t : List (Find C)) (p : Progress) → counts_of p ≡ n → Kept n t p t

@@ -1,12 +1,11 @@
 // Advancing a check.
-ghost use Rattle.std.specs.Prelude.{◌≡◌, length, Some, None, MatchResult};
+ghost use Rattle.std.specs.Prelude.{◌≡◌, true, false, length, Some, None, MatchResult};
 ghost use Rattle.search.specs.Like.{Like};
 ghost use Rattle.search.specs.Search.{query, queried};
 ghost use Rattle.checks.specs.View.{stood, view};
 ghost use Rattle.checks.specs.Calls.{Ready, Answered, NextReady, Kept, Advanced};
-ghost use Rattle.checks.specs.Questions.{advance_refusal};
+ghost use Rattle.checks.specs.Questions.{is_grant, advance_refusal};
 
-use crate::asking::ask_advance;
 use crate::states::{Progress, Running};
 use finds::finder::least_move;
 use finds::refusals::Refused;
@@ -16,6 +15,19 @@ use stores::Store;
 
 // The most queries that a call may grant.
 pub const MAX_GRANT: u32 = 65_535;
+
+// Done if a call may grant so many queries.
+pub fn ask_grant(grant: u32) -> Result<(), Refused>
+    ensures { MatchResult result
+        (λ _. is_grant grant ≡ true)
+        (λ e. (is_grant grant ≡ false) × (e ≡ Refused.Grant)) }
+{
+    if 1 <= grant && grant <= MAX_GRANT {
+        Ok(())
+    } else {
+        Err(Refused::Grant)
+    }
+}
 
 impl Running {
     // Makes as many queries as are granted, or fewer if a verdict comes. Refused if the table or the store is not as the
@@ -34,8 +46,8 @@ impl Running {
             × (e.0 ≡ self) × (table.new ≡ table.old) × (store.new ≡ store.old)) }
         ensures limit { S.limit store.new ≡ S.limit store.old }
     {
-        match ask_advance(self.counts, kind, table, store, grant) {
-            Ok(queries) => Ok(self.turns(kind, table, store, queries)),
+        match self.counts.ask_advance(kind, table, store, grant) {
+            Ok(()) => Ok(self.turns(kind, table, store, grant)),
             Err(refused) => Err((self, refused)),
         }
     }
@@ -56,12 +68,10 @@ impl Running {
         ensures ready { NextReady (K.shape kind.now) result table.new (S.held store.new) (S.limit store.new) }
     {
         let mut running = self;
-        for turn in 0..grant {
+        for _ in 0..grant {
             running = match running.make_query(kind, table, store) {
                 Progress::Running(next) => next,
-                Progress::Matched(end) => return Progress::Matched(end),
-                Progress::Never(end) => return Progress::Never(end),
-                Progress::Full(end) => return Progress::Full(end),
+                ended => return ended,
             };
         }
         Progress::Running(running)

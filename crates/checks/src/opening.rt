@@ -54,7 +54,7 @@ fn take_firsts<K: Kind, S: Store<K>>(
                 finds += 1;
                 if kind.goal(x) {
                     return Progress::Matched(Matched {
-                        counts: begun(rows, finds),
+                        counts: Counts::begun(rows, finds),
                     });
                 }
             }
@@ -94,23 +94,10 @@ fn start(rows: usize, finds: usize) -> Progress
     ensures counts { counts_of result ≡ begun_with rows finds }
     ensures verdict { verdict_of result ≡ (if nat_lt 0 finds then None else Some Verdict.Never) }
 {
-    let counts = begun(rows, finds);
+    let counts = Counts::begun(rows, finds);
     if finds > 0 {
         Progress::Running(Running { counts })
     } else {
         Progress::Never(Never { counts })
-    }
-}
-
-// The counts of a check that was just opened.
-fn begun(rows: usize, finds: usize) -> Counts
-    ensures { result ≡ begun_with rows finds }
-{
-    Counts {
-        rows,
-        finds,
-        row: 0,
-        starts: finds,
-        queries: 0,
     }
 }

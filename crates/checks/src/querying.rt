@@ -1,5 +1,5 @@
 // One query, and the row that it may record.
-ghost use Rattle.std.specs.Prelude.{◌≡◌, ◌+◌, ◌<◌, ◌≤◌, false, length, if◌then◌else◌, Some, None, nat_le, nat_lt, slice_set};
+ghost use Rattle.std.specs.Prelude.{◌≡◌, ◌+◌, ◌<◌, ◌≤◌, false, length, if◌then◌else◌, Some, None, nat_lt, slice_set};
 ghost use Rattle.kinds.specs.Certificate.{covered};
 ghost use Rattle.stores.specs.Holding.{Reordered, inserted};
 ghost use Rattle.checks.specs.View.{counts_of, verdict_of};
@@ -34,17 +34,17 @@ impl Running {
             return self.close();
         };
         match (self.counts, (k, x)) {
-            (counts, _) if is_full(counts, table) => Progress::Full(Full {
+            (counts, _) if counts.is_full(table) => Progress::Full(Full {
                 counts: Counts {
                     queries: counts.queries + 1,
                     ..counts
                 },
             }),
             (counts, (k, x)) if kind.goal(x) => Progress::Matched(Matched {
-                counts: note_find(counts, kind, table, store, k, x),
+                counts: counts.note_find(kind, table, store, k, x),
             }),
             (counts, (k, x)) => Progress::Running(Running {
-                counts: note_find(counts, kind, table, store, k, x),
+                counts: counts.note_find(kind, table, store, k, x),
             }),
         }
     }
@@ -67,44 +67,39 @@ impl Running {
     }
 }
 
-// Whether as many rows are recorded as the table has.
-fn is_full<C>(counts: Counts, table: &[Find<C>]) -> bool
-    ensures { result ≡ nat_le (length table.now) counts.finds }
-{
-    table.len() <= counts.finds
-}
-
-// Records the find in the next row and puts it into the store.
-fn note_find<K: Kind, S: Store<K>>(
-    counts: Counts,
-    kind: &K,
-    table: &mut [Find<K::Config>],
-    store: &mut S,
-    k: Move,
-    x: K::Config,
-) -> Counts
-    requires ready { Ready (K.shape kind.now) counts table.old (S.held store.old) (S.limit store.old) }
-    requires here { counts.row < counts.finds }
-    requires room { counts.finds < length table.old }
-    requires small { length table.old ≤ 4096 }
-    requires counted { counts.queries + counts.starts ≡ counts.finds + counts.row }
-    requires fresh { covered (K.shape kind.now) (S.held store.old) x ≡ false }
-    ensures value { result ≡ noted counts }
-    ensures rows { table.new ≡ slice_set table.old counts.finds (new_row counts table.old k x) }
-    ensures items { Reordered (inserted (K.shape kind.now) x (S.held store.old)) (S.held store.new) }
-    ensures limit { S.limit store.new ≡ S.limit store.old }
-{
-    let length = table[counts.row].length + 1;
-    let find = Find {
-        configuration: x,
-        origin: counts.row,
-        via: k,
-        length,
-    };
-    record_find(kind, table, store, counts.finds, find);
-    Counts {
-        finds: counts.finds + 1,
-        queries: counts.queries + 1,
-        ..counts
+impl Counts {
+    // Records the find in the next row and puts it into the store.
+    fn note_find<K: Kind, S: Store<K>>(
+        self,
+        kind: &K,
+        table: &mut [Find<K::Config>],
+        store: &mut S,
+        k: Move,
+        x: K::Config,
+    ) -> Counts
+        requires ready { Ready (K.shape kind.now) self table.old (S.held store.old) (S.limit store.old) }
+        requires here { self.row < self.finds }
+        requires room { self.finds < length table.old }
+        requires small { length table.old ≤ 4096 }
+        requires counted { self.queries + self.starts ≡ self.finds + self.row }
+        requires fresh { covered (K.shape kind.now) (S.held store.old) x ≡ false }
+        ensures value { result ≡ noted self }
+        ensures rows { table.new ≡ slice_set table.old self.finds (new_row self table.old k x) }
+        ensures items { Reordered (inserted (K.shape kind.now) x (S.held store.old)) (S.held store.new) }
+        ensures limit { S.limit store.new ≡ S.limit store.old }
+    {
+        let length = table[self.row].length + 1;
+        let find = Find {
+            configuration: x,
+            origin: self.row,
+            via: k,
+            length,
+        };
+        record_find(kind, table, store, self.finds, find);
+        Counts {
+            finds: self.finds + 1,
+            queries: self.queries + 1,
+            ..self
+        }
     }
 }
