@@ -12,9 +12,7 @@ use Rattle.search.proofs.Orders.{like_refl}
 use Rattle.finds.specs.declared.refusals.Refused.{Refused}
 use Rattle.finds.specs.declared.refusals.Refused.TheVariants.{Grant}
 use Rattle.checks.specs.declared.counts.Counts.{Counts}
-use Rattle.checks.specs.declared.states.Running.{Running}
 use Rattle.checks.specs.declared.states.Progress.{Progress}
-use Rattle.checks.specs.declared.states.Progress.TheVariants as progress
 use Rattle.checks.specs.View.{counts_of, verdict_of, view}
 use Rattle.checks.specs.Questions.{is_grant, unaltered, store_kept, advance_refusal}
 use Rattle.checks.specs.Calls.{Ready}
@@ -34,13 +32,6 @@ answer_like {C = C} c t u l = ap (λ (w : State C). answer_to w c) l.same ∙ wh
     whatever (Advance g) = refl
     whatever Tally = refl
     whatever (Look i) = refl
-
--- a check that is not running has a verdict
-pub has_ended : (p : Progress) → ((r : Running) → p ≡ progress.Running r → ⊥) → is_some (verdict_of p) ≡ true
-has_ended (progress.Running r) n = absurd (n r refl)
-has_ended (progress.Matched r) n = refl
-has_ended (progress.Never r) n = refl
-has_ended (progress.Full r) n = refl
 
 module _ {C : Type 0} (s : Shape C) where
   -- a call that grants nothing
@@ -74,13 +65,6 @@ module _ {C : Type 0} (s : Shape C) where
         go : (b : Bool) → cond b None (Some Grant) ≡ Some e → (b ≡ false) × (e ≡ Grant)
         go true r = none_some refl r
         go false r = (refl, cc)
-
-    pub a_grant : advance_refusal s n t h l g ≡ None → is_grant g ≡ true
-    a_grant q = go (is_grant g) (sym opens ∙ q)
-      where
-        go : (b : Bool) → cond b None (Some Grant) ≡ None → b ≡ true
-        go true r = refl
-        go false r = none_some r refl
 
   pub acted_refused : (g : ℕ) (p p' : Progress) (t t' : List (Find C)) (h h' : List C) (e : Refused) → p' ≡ p → t' ≡ t → h' ≡ h → is_grant g ≡ false → e ≡ Grant
       → Acted s p t h (Advance g) p' t' h' (Err e)

@@ -10,7 +10,7 @@ ghost use Rattle.checks.specs.Calls.{Ready};
 ghost use Rattle.scripts.specs.declared.Reply.TheVariants as reply;
 ghost use Rattle.scripts.specs.Scripts.{answer_to, Acted, Ran};
 
-use checks::advancing::MAX_GRANT;
+use checks::advancing::ask_grant;
 use checks::opening::open;
 use checks::states::{Progress, Running};
 use finds::refusals::Refused;
@@ -145,11 +145,8 @@ fn advance_running<K: Kind, S: Store<K>>(
 fn granted_after<C>(grant: u32, verdict: Option<Verdict>) -> Result<Reply<C>, Refused>
     ensures { result ≡ (if is_grant grant then Ok (reply.Advanced verdict) else Err refused.Grant) }
 {
-    if 1 <= grant && grant <= MAX_GRANT {
-        Ok(Reply::Advanced(verdict))
-    } else {
-        Err(Refused::Grant)
-    }
+    ask_grant(grant)?;
+    Ok(Reply::Advanced(verdict))
 }
 
 fn tally<K: Kind>(

@@ -1,5 +1,6 @@
 use Rattle.std.proofs.Common.{refl}
-use Rattle.scripts.proofs.Acting.{has_ended, acted_ended}
+use Rattle.checks.proofs.Turning.{has_ended}
+use Rattle.scripts.proofs.Acting.{acted_ended}
 use Rattle.scripts.proofs.advance.Goals as goal
 
 pub returns-in_default : goal.returns-in_default
