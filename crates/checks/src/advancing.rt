@@ -2,10 +2,12 @@
 ghost use Rattle.std.specs.Prelude.{◌≡◌, true, false, length, Some, None, MatchResult};
 ghost use Rattle.search.specs.Like.{Like};
 ghost use Rattle.search.specs.Search.{query, queried};
+ghost use Rattle.checks.specs.Lending.{Same};
 ghost use Rattle.checks.specs.View.{stood, view};
 ghost use Rattle.checks.specs.Calls.{Ready, Answered, NextReady, Kept, Advanced};
 ghost use Rattle.checks.specs.Questions.{is_grant, advance_refusal};
 
+use crate::lending::Lent;
 use crate::states::{Progress, Running};
 use finds::finder::least_move;
 use finds::refusals::Refused;
@@ -47,7 +49,10 @@ impl Running {
         ensures limit { S.limit store.new ≡ S.limit store.old }
     {
         match self.counts.ask_advance(kind, table, store, grant) {
-            Ok(()) => Ok(self.turns(kind, table, store, grant)),
+            Ok(()) => {
+                let mut lent = Lent { table, store };
+                Ok(self.turns(kind, &mut lent, grant))
+            }
             Err(refused) => Err((self, refused)),
         }
     }
@@ -56,20 +61,16 @@ impl Running {
     fn turns<K: Kind, S: Store<K>>(
         self,
         kind: &K,
-        table: &mut [Find<K::Config>],
-        store: &mut S,
+        lent: &mut Lent<K::Config, S>,
         grant: u32,
     ) -> Progress
-        requires { Ready (K.shape kind.now) self.counts table.old (S.held store.old) (S.limit store.old) }
-        ensures like { Like (view result table.new (S.held store.new))
-            (queried (K.shape kind.now) (length table.old) grant (stood self.counts None table.old (S.held store.old))) }
-        ensures limit { S.limit store.new ≡ S.limit store.old }
-        ensures kept { Kept self.counts table.old result table.new }
-        ensures ready { NextReady (K.shape kind.now) result table.new (S.held store.new) (S.limit store.new) }
+        requires { Ready (K.shape kind.now) self.counts lent.old.table.now (S.held lent.old.store.now) (S.limit lent.old.store.now) }
+        ensures advanced { Advanced (K.shape kind.now) self.counts lent.old.table.now (S.held lent.old.store.now) grant result lent.new.table.now (S.held lent.new.store.now) (S.limit lent.new.store.now) }
+        ensures same { Same S.limit lent.old lent.new }
     {
         let mut running = self;
         for _ in 0..grant {
-            running = match running.make_query(kind, table, store) {
+            running = match running.make_query(kind, lent) {
                 Progress::Running(next) => next,
                 ended => return ended,
             };
@@ -78,34 +79,28 @@ impl Running {
     }
 
     // One query, as the search makes it.
-    fn make_query<K: Kind, S: Store<K>>(
-        self,
-        kind: &K,
-        table: &mut [Find<K::Config>],
-        store: &mut S,
-    ) -> Progress
-        requires { Ready (K.shape kind.now) self.counts table.old (S.held store.old) (S.limit store.old) }
-        ensures like { Like (view result table.new (S.held store.new))
-            (query (K.shape kind.now) (length table.old) (stood self.counts None table.old (S.held store.old))) }
-        ensures limit { S.limit store.new ≡ S.limit store.old }
-        ensures kept { Kept self.counts table.old result table.new }
-        ensures ready { NextReady (K.shape kind.now) result table.new (S.held store.new) (S.limit store.new) }
+    fn make_query<K: Kind, S: Store<K>>(self, kind: &K, lent: &mut Lent<K::Config, S>) -> Progress
+        requires { Ready (K.shape kind.now) self.counts lent.old.table.now (S.held lent.old.store.now) (S.limit lent.old.store.now) }
+        ensures like { Like (view result lent.new.table.now (S.held lent.new.store.now))
+            (query (K.shape kind.now) (length lent.old.table.now) (stood self.counts None lent.old.table.now (S.held lent.old.store.now))) }
+        ensures same { Same S.limit lent.old lent.new }
+        ensures kept { Kept self.counts lent.old.table.now result lent.new.table.now }
+        ensures ready { NextReady (K.shape kind.now) result lent.new.table.now (S.held lent.new.store.now) (S.limit lent.new.store.now) }
     {
-        let answer = self.expand(kind, table, store);
-        self.query(kind, table, store, answer)
+        let answer = self.expand(kind, lent);
+        self.query(kind, lent, answer)
     }
 
     // The least move that leads back from the row that is being expanded to what the store does not cover.
     fn expand<K: Kind, S: Store<K>>(
         &self,
         kind: &K,
-        table: &[Find<K::Config>],
-        store: &S,
+        lent: &Lent<K::Config, S>,
     ) -> Option<(Move, K::Config)>
-        requires { length table.now ≡ self.now.counts.rows }
-        ensures { Answered (K.shape kind.now) self.now.counts table.now (S.held store.now) result }
+        requires { length lent.now.table.now ≡ self.now.counts.rows }
+        ensures { Answered (K.shape kind.now) self.now.counts lent.now.table.now (S.held lent.now.store.now) result }
     {
         let row = self.counts.row;
-        least_move(kind, store, table[row].configuration)
+        least_move(kind, lent.store, lent.table[row].configuration)
     }
 }

@@ -34,11 +34,11 @@ impl Counts {
         }
     }
 
-    // Whether as many rows are recorded as the table has.
-    pub(crate) fn is_full<C>(self, table: &[Find<C>]) -> bool
-        ensures { result ≡ nat_le (length table.now) self.finds }
+    // Whether as many rows are recorded as a table of so many rows has.
+    pub(crate) fn is_full(self, rows: usize) -> bool
+        ensures { result ≡ nat_le rows self.finds }
     {
-        table.len() <= self.finds
+        rows <= self.finds
     }
 
     // The length of the row that is being expanded.

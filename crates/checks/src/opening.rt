@@ -3,13 +3,14 @@ ghost use Rattle.std.specs.Prelude.{◌≡◌, ◌<◌, ◌≤◌, false, length
 ghost use Rattle.kinds.specs.Certificate.{covered};
 ghost use Rattle.stores.specs.Holding.{Reordered, inserted};
 ghost use Rattle.search.specs.Search.{start as started};
+ghost use Rattle.checks.specs.Lending.{Same};
 ghost use Rattle.checks.specs.View.{counts_of, verdict_of};
 ghost use Rattle.checks.specs.Calls.{Opened, begun_with};
 ghost use Rattle.checks.specs.Questions.{open_refusal};
 
 use crate::asking::ask_open;
 use crate::counts::Counts;
-use crate::recording::record_find;
+use crate::lending::{Lent, record_find};
 use crate::states::{Matched, Never, Progress, Running};
 use finds::refusals::Refused;
 use kinds::Kind;
@@ -32,25 +33,22 @@ pub fn open<K: Kind, S: Store<K>>(
     ensures limit { S.limit store.new ≡ S.limit store.old }
 {
     ask_open(kind, table.len(), store)?;
-    Ok(take_firsts(kind, table, store))
+    let mut lent = Lent { table, store };
+    Ok(take_firsts(kind, &mut lent))
 }
 
 // Takes the first configurations in order, into a table and a store that will do for them.
-fn take_firsts<K: Kind, S: Store<K>>(
-    kind: &K,
-    table: &mut [Find<K::Config>],
-    store: &mut S,
-) -> Progress
-    requires { open_refusal (K.shape kind.now) (length table.old) (S.held store.old) (S.limit store.old) ≡ None }
-    ensures opened { Opened (K.shape kind.now) table.old result table.new (S.held store.new) (S.limit store.new) }
-    ensures limit { S.limit store.new ≡ S.limit store.old }
+fn take_firsts<K: Kind, S: Store<K>>(kind: &K, lent: &mut Lent<K::Config, S>) -> Progress
+    requires { open_refusal (K.shape kind.now) (length lent.old.table.now) (S.held lent.old.store.now) (S.limit lent.old.store.now) ≡ None }
+    ensures opened { Opened (K.shape kind.now) lent.old.table.now result lent.new.table.now (S.held lent.new.store.now) (S.limit lent.new.store.now) }
+    ensures same { Same S.limit lent.old lent.new }
 {
-    let rows = table.len();
+    let rows = lent.table.len();
     let mut finds = 0;
     for i in 0..kind.first_count() {
         if let Some(x) = kind.first(i) {
-            if !store.covers(kind, x) {
-                put_first(kind, table, store, finds, x);
+            if !lent.store.covers(kind, x) {
+                put_first(kind, lent, finds, x);
                 finds += 1;
                 if kind.goal(x) {
                     return Progress::Matched(Matched {
@@ -64,19 +62,13 @@ fn take_firsts<K: Kind, S: Store<K>>(
 }
 
 // Records a first configuration in row i and puts it into the store.
-fn put_first<K: Kind, S: Store<K>>(
-    kind: &K,
-    table: &mut [Find<K::Config>],
-    store: &mut S,
-    i: usize,
-    x: K::Config,
-)
-    requires room { i < length table.old }
-    requires fresh { covered (K.shape kind.now) (S.held store.old) x ≡ false }
-    requires space { length (S.held store.old) < S.limit store.old }
-    ensures rows { table.new ≡ slice_set table.old i (started x) }
-    ensures items { Reordered (inserted (K.shape kind.now) x (S.held store.old)) (S.held store.new) }
-    ensures limit { S.limit store.new ≡ S.limit store.old }
+fn put_first<K: Kind, S: Store<K>>(kind: &K, lent: &mut Lent<K::Config, S>, i: usize, x: K::Config)
+    requires room { i < length lent.old.table.now }
+    requires fresh { covered (K.shape kind.now) (S.held lent.old.store.now) x ≡ false }
+    requires space { length (S.held lent.old.store.now) < S.limit lent.old.store.now }
+    ensures rows { lent.new.table.now ≡ slice_set lent.old.table.now i (started x) }
+    ensures items { Reordered (inserted (K.shape kind.now) x (S.held lent.old.store.now)) (S.held lent.new.store.now) }
+    ensures same { Same S.limit lent.old lent.new }
 {
     let find = Find {
         configuration: x,
@@ -84,7 +76,7 @@ fn put_first<K: Kind, S: Store<K>>(
         via: 0,
         length: 0,
     };
-    record_find(kind, table, store, i, find);
+    record_find(kind, lent, i, find);
 }
 
 // The check that has recorded so many first configurations, none of them a goal.
