@@ -6,6 +6,7 @@ ghost use Rattle.checks.specs.Calls.{begun_with};
 use search::Find;
 
 // How far a check has come.
+// Stays: `finds` within `rows` is a ghost field of the states and not of this, since `noted` is defined of any counts.
 #[derive(Clone, Copy)]
 pub(crate) struct Counts {
     // How many rows the table had at opening.

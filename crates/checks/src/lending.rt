@@ -9,6 +9,7 @@ use search::Find;
 use stores::Store;
 
 // The table of finds and the store.
+// Stays: the kind goes beside it, since in it each contract would also have to say that the kind is the same after it.
 #[derive(Drop)]
 pub(crate) struct Lent<'a, C, S> {
     pub(crate) table: &'a mut [Find<C>],
