@@ -1,6 +1,7 @@
 // What the tests have in common: making a call, and holding its answer to what it should be.
-use checks::states::{Progress, Running};
-use finds::refusals::Refused;
+use checks::advancing::MAX_GRANT;
+use checks::opening::open;
+use checks::states::Progress;
 use kinds::{Kind, Move};
 use search::{Find, Tally, Verdict};
 use sets::States;
@@ -19,35 +20,24 @@ pub(crate) fn granted<K: Kind, S: Store<K>>(
     match progress {
         Progress::Running(running) => match running.advance(kind, table, store, grant) {
             Ok(next) => Ok(next),
-            Err(refusal) => {
-                let (_, refused) = refusal;
-                Err(Fail::new(format_args!("advance by {grant}: {refused:?}")))
-            }
+            Err((_, refused)) => Err(Fail::new(format_args!("advance by {grant}: {refused:?}"))),
         },
-        Progress::Matched(end) => Ok(Progress::Matched(end)),
-        Progress::Never(end) => Ok(Progress::Never(end)),
-        Progress::Full(end) => Ok(Progress::Full(end)),
+        ended => Ok(ended),
     }
 }
 
-// The check that a refused advance gives back, after seeing that it is refused under this number.
-pub(crate) fn given_back<K: Kind, S: Store<K>>(
+// The end of a check of this kind over this table and store, after seeing that it has this tally.
+pub(crate) fn ended<K: Kind, S: Store<K>>(
     rt: &impl Abort,
-    running: Running,
     kind: &K,
     table: &mut [Find<K::Config>],
     store: &mut S,
-    grant: u32,
-    number: u8,
-) -> Result<Running, Fail> {
-    match running.advance(kind, table, store, grant) {
-        Ok(_) => Err(Fail::new(format_args!("advance by {grant}: not refused"))),
-        Err(refusal) => {
-            let (running, refused) = refusal;
-            assert!(rt; refused.number() == number && refused.place() == 0);
-            Ok(running)
-        }
-    }
+    tally: Tally,
+) -> Result<Progress, Fail> {
+    let opened = open(kind, table, store)?;
+    let end = granted(opened, kind, table, store, MAX_GRANT)?;
+    tallies(rt, &end, kind, table, tally);
+    Ok(end)
 }
 
 // Sees that the check is tallied so, and so again.
@@ -75,13 +65,16 @@ pub(crate) fn records<K: Kind>(
         let x = find.configuration;
         let y = row.configuration;
         assert!(rt; kind.within(x, y) && kind.within(y, x), "configuration {i}");
-        assert!(rt;
-            find.origin == row.origin && find.via == row.via && find.length == row.length,
+        assert_eq!(rt;
+            (find.origin, find.via, find.length),
+            (row.origin, row.via, row.length),
             "row {i}"
         );
     }
-    refuses_look(rt, progress, kind, table, rows.len(), 13)?;
-    refuses_look(rt, progress, kind, table, usize::MAX, 13)
+    for row in [rows.len(), usize::MAX] {
+        refuses_look(rt, progress, kind, table, row, 13)?;
+    }
+    Ok(())
 }
 
 // Sees that looking at the row is refused under this number.
@@ -96,7 +89,7 @@ pub(crate) fn refuses_look<K: Kind>(
     match progress.look(kind, table, row) {
         Ok(_) => Err(Fail::new(format_args!("row {row}: not refused"))),
         Err(refused) => {
-            assert!(rt; refused.number() == number && refused.place() == 0);
+            assert_eq!(rt; (refused.number(), refused.place()), (number, 0));
             Ok(())
         },
     }

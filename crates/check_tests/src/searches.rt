@@ -1,9 +1,8 @@
 // Searches worked out by hand.
-use crate::calls::{blank, find, granted, records, tallies, tally};
+use crate::calls::{blank, ended, find, granted, records, tallies, tally};
 use crate::tables::{stuck, stuck_beside};
 use checks::opening::open;
 use checks::states::Progress;
-use finds::refusals::Refused;
 use inspector::answers::Inspection;
 use inspector::inspect;
 use pattern_kinds::pattern::Single;
@@ -19,24 +18,20 @@ use stores::list::ListStore;
 // states. The empty set is still expanded once more before it is closed.
 #[test]
 fn latch_query_by_query(rt: HostRuntime) -> Result<(), Fail> {
-    let Ok(checked) = latch().checked() else {
-        assert!(rt; false);
-        return Ok(());
-    };
-    let kind = Single::new(checked.seal());
+    let kind = Single::new(latch().checked()?.seal());
     let rows = [find(0, 0, 0, 0), find(2, 0, 1, 1), find(3, 1, 1, 2)];
     let mut table = [blank(); 3];
     let mut room = [9; 3];
     let mut store = ListStore::new(&mut room);
     let mut progress = open(&kind, &mut table, &mut store)?;
     tallies(&rt, &progress, &kind, &table, tally(None, 1, 0, 0));
-    records(&rt, &progress, &kind, &table, &rows[0..1])?;
+    records(&rt, &progress, &kind, &table, &rows[..1])?;
     progress = granted(progress, &kind, &mut table, &mut store, 1)?;
     tallies(&rt, &progress, &kind, &table, tally(None, 2, 1, 0));
-    records(&rt, &progress, &kind, &table, &rows[0..2])?;
+    records(&rt, &progress, &kind, &table, &rows[..2])?;
     progress = granted(progress, &kind, &mut table, &mut store, 1)?;
     tallies(&rt, &progress, &kind, &table, tally(None, 2, 2, 1));
-    records(&rt, &progress, &kind, &table, &rows[0..2])?;
+    records(&rt, &progress, &kind, &table, &rows[..2])?;
     progress = granted(progress, &kind, &mut table, &mut store, 1)?;
     tallies(&rt, &progress, &kind, &table, matches());
     records(&rt, &progress, &kind, &table, &rows)
@@ -48,39 +43,34 @@ fn matches() -> Tally {
 }
 
 // Sees that LATCH over three rows ends in MATCHES by these grants, or by the first of them, with the sequence 1, 1.
-fn latch_by(rt: &impl Abort, first: u32, second: u32, third: u32) -> Result<(), Fail> {
-    let Ok(checked) = latch().checked() else {
-        assert!(rt; false);
-        return Ok(());
-    };
-    let kind = Single::new(checked.seal());
+fn latch_by(rt: &impl Abort, grants: [u32; 3]) -> Result<(), Fail> {
+    let kind = Single::new(latch().checked()?.seal());
     let mut table = [blank(); 3];
     let mut room = [9; 3];
     let mut store = ListStore::new(&mut room);
     let mut progress = open(&kind, &mut table, &mut store)?;
-    progress = granted(progress, &kind, &mut table, &mut store, first)?;
-    progress = granted(progress, &kind, &mut table, &mut store, second)?;
-    progress = granted(progress, &kind, &mut table, &mut store, third)?;
+    for grant in grants {
+        progress = granted(progress, &kind, &mut table, &mut store, grant)?;
+    }
     tallies(rt, &progress, &kind, &table, matches());
     let Progress::Matched(end) = progress else {
-        assert!(rt; false);
-        return Ok(());
+        return Err(Fail::new("no MATCHES"));
     };
     let mut list = [7; 3];
     assert_eq!(rt; end.sequence(&kind, &table, &mut list), Ok(2));
-    assert!(rt; list[0] == 1 && list[1] == 1 && list[2] == 7);
+    assert_eq!(rt; list, [1, 1, 7]);
     Ok(())
 }
 
 // However the queries are granted, the end is the same; a grant of more than are left makes no more than are left.
 #[test]
 fn grants_add_up(rt: HostRuntime) -> Result<(), Fail> {
-    latch_by(&rt, 1, 1, 1)?;
-    latch_by(&rt, 1, 2, 1)?;
-    latch_by(&rt, 2, 1, 1)?;
-    latch_by(&rt, 3, 1, 1)?;
-    latch_by(&rt, 65_535, 1, 1)?;
-    latch_by(&rt, 1, 65_535, 1)
+    latch_by(&rt, [1, 1, 1])?;
+    latch_by(&rt, [1, 2, 1])?;
+    latch_by(&rt, [2, 1, 1])?;
+    latch_by(&rt, [3, 1, 1])?;
+    latch_by(&rt, [65_535, 1, 1])?;
+    latch_by(&rt, [1, 65_535, 1])
 }
 
 // Sees that LATCH over this table has this tally at its end.
@@ -90,15 +80,9 @@ fn latch_over(
     room: &mut [States],
     tally: Tally,
 ) -> Result<(), Fail> {
-    let Ok(checked) = latch().checked() else {
-        assert!(rt; false);
-        return Ok(());
-    };
-    let kind = Single::new(checked.seal());
+    let kind = Single::new(latch().checked()?.seal());
     let mut store = ListStore::new(room);
-    let opened = open(&kind, table, &mut store)?;
-    let ended = granted(opened, &kind, table, &mut store, 65_535)?;
-    tallies(rt, &ended, &kind, table, tally);
+    ended(rt, &kind, table, &mut store, tally)?;
     Ok(())
 }
 
@@ -123,23 +107,15 @@ fn never(
     tally: Tally,
     held: States,
 ) -> Result<(), Fail> {
-    let Ok(checked) = parts.checked() else {
-        assert!(rt; false);
-        return Ok(());
-    };
-    let kind = Single::new(checked.seal());
+    let kind = Single::new(parts.checked()?.seal());
     let mut store = ListStore::new(room);
-    let opened = open(&kind, table, &mut store)?;
-    let ended = granted(opened, &kind, table, &mut store, 65_535)?;
-    tallies(rt, &ended, &kind, table, tally);
-    let Progress::Never(end) = ended else {
-        assert!(rt; false);
-        return Ok(());
+    let Progress::Never(end) = ended(rt, &kind, table, &mut store, tally)? else {
+        return Err(Fail::new("no NEVER"));
     };
     let mut list = [7; 2];
     assert_eq!(rt; end.certificate(&kind, table, &store, &mut list), Ok(1));
-    assert!(rt; list[0] == held && list[1] == 7);
-    assert_eq!(rt; inspect(&kind, &list[0..1]), Ok(Inspection::Passed));
+    assert_eq!(rt; list, [held, 7]);
+    assert_eq!(rt; inspect(&kind, &list[..1]), Ok(Inspection::Passed));
     Ok(())
 }
 

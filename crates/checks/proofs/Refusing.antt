@@ -1,5 +1,5 @@
 -- What it takes that a call is not refused. Assumes nothing.
-use Rattle.std.proofs.Common.{◌≡◌, ℕ, ◌≤◌, Bool, true, false, cond, ◌&&◌, eqb, leb, List, length, take, Some, None, Decides, Option, sym, refl}
+use Rattle.std.proofs.Common.{◌≡◌, ℕ, ◌≤◌, Bool, true, false, cond, ◌&&◌, eqb, leb, List, length, take, Some, None, Decides, Option, refl}
 use Rattle.std.proofs.lemmas.Bool.{and_parts, and_from, eqb-true, leb-true, le-leb, eq-eqb}
 use Rattle.kinds.specs.Shape.{Shape}
 use Rattle.kinds.proofs.Values.{none_some}
@@ -15,13 +15,6 @@ use Rattle.checks.specs.Calls.{Ready}
 passes : {A : Type 0} (b : Bool) (o : Option A) (a : A) → cond b o (Some a) ≡ None → (b ≡ true) × (o ≡ None)
 passes true o a e = (refl, e)
 passes false o a e = none_some e refl
-
--- and one that has to be
-pub same_answer : {P : Type 0} (b d : Bool) → Decides b P → Decides d P → b ≡ d
-same_answer true true f g = refl
-same_answer true false f g = sym (g.1 (f.0 refl))
-same_answer false true f g = f.1 (g.0 refl)
-same_answer false false f g = refl
 
 module _ {C : Type 0} (s : Shape C) (r : ℕ) where
   pub admitted_decides : Decides (admitted s r) (Admits s r)

@@ -6,7 +6,7 @@ use Rattle.std.proofs.lemmas.Option.{slice_get-get_or}
 use Rattle.kinds.specs.Shape.{Shape}
 use Rattle.kinds.specs.Certificate.{covered}
 use Rattle.kinds.proofs.Values.{none_some}
-use Rattle.kinds.proofs.Searches.{entry_at, read_at}
+use Rattle.kinds.proofs.Searches.{entry_at}
 use Rattle.inspector.specs.Inspected.{if_found}
 use Rattle.stores.specs.Holding.{Reordered, inserted}
 use Rattle.stores.proofs.Reorderings.{reordered_refl, reordered_length}
@@ -41,27 +41,11 @@ nth_take (v ∷ vs) zero i l = absurd (not-suc-le-zero l)
 nth_take (v ∷ vs) (suc n) zero l = refl
 nth_take (v ∷ vs) (suc n) (suc i) l = nth_take vs n i (le_of_suc-le-suc l)
 
-pub nth_past : {A : Type 0} (xs : List A) (n i : ℕ) → n ≤ i → slice_get (take n xs) i ≡ None
-nth_past [] zero i l = refl
-nth_past [] (suc n) i l = refl
-nth_past (v ∷ vs) zero i l = refl
-nth_past (v ∷ vs) (suc n) zero l = absurd (not-suc-le-zero l)
-nth_past (v ∷ vs) (suc n) (suc i) l = nth_past vs n i (le_of_suc-le-suc l)
-
 pub length_taken : {C : Type 0} (t : List (Find C)) (n i : ℕ) (y : Find C) → slice_get (take n t) i ≡ Some y → length_at t i ≡ y.length
 length_taken {C = C} t n i y e = ap (λ o. if_found o (λ (z : Find C). z.length) 0) (nth_taken t n i y e)
 
 pub length_read : {C : Type 0} (t : List (Find C)) (i : ℕ) (d : Find C) → i < length t → length_at t i ≡ (get_or t i d).length
 length_read {C = C} t i d l = ap (λ o. if_found o (λ (z : Find C). z.length) 0) (slice_get-get_or t i d l)
-
--- a row that is read field by field
-pub row_read : {C : Type 0} (t : List (Find C)) (i : ℕ) (a b c d : Find C) → i < length t
-    → slice_get t i ≡ Some (record { configuration = (get_or t i a).configuration; origin = (get_or t i b).origin; via = (get_or t i c).via; length = (get_or t i d).length })
-row_read {C = C} t i a b c d l =
-    let y = get_or t i a in
-    let e = slice_get-get_or t i a l in
-    let at : (z : Find C) → y ≡ get_or t i z = λ z. sym (read_at t i y z e) in
-    e ∙ (λ j. Some (record { configuration = y.configuration; origin = (at b j).origin; via = (at c j).via; length = (at d j).length }))
 
 -- what lies behind a row that is written
 pub drop_set : {A : Type 0} (xs : List A) (i : ℕ) (x : A) → drop (i + 1) (set xs i x) ≡ drop (i + 1) xs
@@ -118,9 +102,6 @@ module _ {C : Type 0} (n : Counts) (t : List (Find C)) (fits : n.finds ≤ lengt
 
     pub found_move : (k : ℕ) (x : C) → a ≡ Some (k, x) → k < s.moves
     found_move k x e = (something_new s h expanding.0.configuration (k, x) (found ∙ e)).0
-
-    pub found_new : (k : ℕ) (x : C) → a ≡ Some (k, x) → covered s h x ≡ false
-    found_new k x e = (something_new s h expanding.0.configuration (k, x) (found ∙ e)).2
 
   -- ---- what a closed row and a full table leave
 
@@ -186,3 +167,10 @@ module _ {C : Type 0} (n : Counts) (t : List (Find C)) (fits : n.finds ≤ lengt
       more = let f = ap (λ (m : Counts). m.finds) (q ∙ noted-is) in omega arith;
       behind = subst (λ (m : ℕ). drop m t' ≡ drop m t) (sym (ap (λ (m : Counts). m.finds) (q ∙ noted-is))) (ap (drop (n.finds + 1)) set_is ∙ drop_set t n.finds row);
     }
+
+-- what the finder found is not covered
+pub found_new : {C : Type 0} {s : Shape C} {n : Counts} {t : List (Find C)} {h : List C} {l : ℕ} {a : Option (ℕ × C)} → Ready s n t h l → n.finds ≤ n.rows → n.row < n.finds → Answered s n t h a
+    → (k : ℕ) (x : C) → a ≡ Some (k, x) → covered s h x ≡ false
+found_new {s = s} {n = n} {t = t} {h = h} {a = a} ready room here answered k x e =
+    let y = expanding n t (omega (arith, ready.long, room)) here in
+    (something_new s h y.0.configuration (k, x) (sym (answered y.0 y.1) ∙ e)).2

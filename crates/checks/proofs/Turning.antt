@@ -1,5 +1,5 @@
 -- Queries one after another. Assumes nothing.
-use Rattle.std.proofs.Common.{◌≡◌, ℕ, zero, suc, ◌+◌, ◌-◌, ◌≤◌, true, List, [], ◌∷◌, get_or, drop, is_some, Option, sym, refl, ap, ◌∙◌, subst, add-one, arith}
+use Rattle.std.proofs.Common.{◌≡◌, ℕ, zero, suc, ◌+◌, ◌-◌, ◌≤◌, true, List, [], ◌∷◌, length, get_or, drop, is_some, None, Option, sym, refl, ap, ◌∙◌, subst, add-one, arith}
 use Rattle.kinds.specs.Shape.{Shape}
 use Rattle.kinds.specs.Laws.{Laws}
 use Rattle.kinds.proofs.Searches.{read_at}
@@ -11,9 +11,13 @@ use Rattle.search.proofs.Counting.{queried_ended, queried_more}
 use Rattle.search.proofs.Orders.{like_refl, like_trans, query_like, queried_like, promise_like}
 use Rattle.search.proofs.Promises.{keeps_promise}
 use Rattle.checks.specs.declared.counts.Counts.{Counts}
+use Rattle.checks.specs.declared.states.Running.{Running}
 use Rattle.checks.specs.declared.states.Progress.{Progress}
-use Rattle.checks.specs.View.{counts_of}
-use Rattle.checks.specs.Calls.{Answered, Kept, Stands}
+use Rattle.checks.specs.declared.states.Progress.TheVariants as progress
+use Rattle.checks.specs.declared.lending.Lent.{Lent}
+use Rattle.checks.specs.Lending.{Same}
+use Rattle.checks.specs.View.{counts_of, verdict_of, stood, view}
+use Rattle.checks.specs.Calls.{NextReady, Answered, Kept, Stands, Advanced}
 use Rattle.checks.proofs.Stepping.{nth_taken}
 
 pub drop_past : {A : Type 0} (xs ys : List A) (m k : ℕ) → m ≤ k → drop m xs ≡ drop m ys → drop k xs ≡ drop k ys
@@ -33,6 +37,21 @@ drop_past {A = A} xs ys m k le e =
         whole (v ∷ vs) = refl
     both [] (suc m) j = nothing (suc m + j) ∙ sym (nothing j)
     both (v ∷ vs) (suc m) j = let q : suc m + j ≡ suc (m + j) = omega arith in ap (λ (i : ℕ). drop i (v ∷ vs)) q ∙ both vs m j
+
+-- what stays the same of what is lent
+module _ {C S : Type 0} (m : S → ℕ) where
+  pub same_refl : (a : Lent C S) → Same m a a
+  same_refl a = record { table = refl; store = refl; limit = refl }
+
+  pub same_trans : (a b c : Lent C S) → Same m a b → Same m b c → Same m a c
+  same_trans a b c p q = record { table = q.table ∙ p.table; store = q.store ∙ p.store; limit = q.limit ∙ p.limit }
+
+-- a check that is not running has a verdict
+pub has_ended : (p : Progress) → ((r : Running) → p ≡ progress.Running r → ⊥) → is_some (verdict_of p) ≡ true
+has_ended (progress.Running r) n = absurd (n r refl)
+has_ended (progress.Matched r) n = refl
+has_ended (progress.Never r) n = refl
+has_ended (progress.Full r) n = refl
 
 module _ {C : Type 0} where
   pub kept_same : (n : Counts) (t : List (Find C)) (p : Progress) → counts_of p ≡ n → Kept n t p t
@@ -71,3 +90,9 @@ module _ {C : Type 0} (s : Shape C) (r : ℕ) where
   goes_on laws admits q g a u l m =
       let k : Like a (after s r (q + g)) = like_trans a (queried s r g u) _ l (subst (Like (queried s r g u)) (queried_more s r q g _) (queried_like s r g u (after s r q) m)) in
       record { like = k; promise = promise_like s r (q + g) a (after s r (q + g)) k (keeps_promise s laws r (q + g) admits) }
+
+-- a check that was advanced
+pub advanced : {C : Type 0} (s : Shape C) → Laws s → (n : Counts) (t : List (Find C)) (h : List C) (g : ℕ) (p : Progress) (t' : List (Find C)) (h' : List C) (l : ℕ)
+    → Like (view p t' h') (queried s (length t) g (stood n None t h)) → Kept n t p t' → NextReady s p t' h' l → Advanced s n t h g p t' h' l
+advanced s laws n t h g p t' h' l like kept ready =
+    record { like = like; kept = kept; ready = ready; goes_on = λ q admits m. goes_on s (length t) laws admits q g (view p t' h') (stood n None t h) like m }

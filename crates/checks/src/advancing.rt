@@ -1,12 +1,13 @@
 // Advancing a check.
-ghost use Rattle.std.specs.Prelude.{◌≡◌, length, Some, None, MatchResult};
+ghost use Rattle.std.specs.Prelude.{◌≡◌, true, false, length, Some, None, MatchResult};
 ghost use Rattle.search.specs.Like.{Like};
 ghost use Rattle.search.specs.Search.{query, queried};
+ghost use Rattle.checks.specs.Lending.{Same};
 ghost use Rattle.checks.specs.View.{stood, view};
 ghost use Rattle.checks.specs.Calls.{Ready, Answered, NextReady, Kept, Advanced};
-ghost use Rattle.checks.specs.Questions.{advance_refusal};
+ghost use Rattle.checks.specs.Questions.{is_grant, advance_refusal};
 
-use crate::asking::ask_advance;
+use crate::lending::Lent;
 use crate::states::{Progress, Running};
 use finds::finder::least_move;
 use finds::refusals::Refused;
@@ -16,6 +17,19 @@ use stores::Store;
 
 // The most queries that a call may grant.
 pub const MAX_GRANT: u32 = 65_535;
+
+// Done if a call may grant so many queries.
+pub fn ask_grant(grant: u32) -> Result<(), Refused>
+    ensures { MatchResult result
+        (λ _. is_grant grant ≡ true)
+        (λ e. (is_grant grant ≡ false) × (e ≡ Refused.Grant)) }
+{
+    if 1 <= grant && grant <= MAX_GRANT {
+        Ok(())
+    } else {
+        Err(Refused::Grant)
+    }
+}
 
 impl Running {
     // Makes as many queries as are granted, or fewer if a verdict comes. Refused if the table or the store is not as the
@@ -34,8 +48,11 @@ impl Running {
             × (e.0 ≡ self) × (table.new ≡ table.old) × (store.new ≡ store.old)) }
         ensures limit { S.limit store.new ≡ S.limit store.old }
     {
-        match ask_advance(self.counts, kind, table, store, grant) {
-            Ok(queries) => Ok(self.turns(kind, table, store, queries)),
+        match self.counts.ask_advance(kind, table, store, grant) {
+            Ok(()) => {
+                let mut lent = Lent { table, store };
+                Ok(self.turns(kind, &mut lent, grant))
+            }
             Err(refused) => Err((self, refused)),
         }
     }
@@ -44,58 +61,46 @@ impl Running {
     fn turns<K: Kind, S: Store<K>>(
         self,
         kind: &K,
-        table: &mut [Find<K::Config>],
-        store: &mut S,
+        lent: &mut Lent<K::Config, S>,
         grant: u32,
     ) -> Progress
-        requires { Ready (K.shape kind.now) self.counts table.old (S.held store.old) (S.limit store.old) }
-        ensures like { Like (view result table.new (S.held store.new))
-            (queried (K.shape kind.now) (length table.old) grant (stood self.counts None table.old (S.held store.old))) }
-        ensures limit { S.limit store.new ≡ S.limit store.old }
-        ensures kept { Kept self.counts table.old result table.new }
-        ensures ready { NextReady (K.shape kind.now) result table.new (S.held store.new) (S.limit store.new) }
+        requires { Ready (K.shape kind.now) self.counts lent.old.table.now (S.held lent.old.store.now) (S.limit lent.old.store.now) }
+        ensures advanced { Advanced (K.shape kind.now) self.counts lent.old.table.now (S.held lent.old.store.now) grant result lent.new.table.now (S.held lent.new.store.now) (S.limit lent.new.store.now) }
+        ensures same { Same S.limit lent.old lent.new }
     {
         let mut running = self;
-        for turn in 0..grant {
-            running = match running.make_query(kind, table, store) {
+        for _ in 0..grant {
+            running = match running.make_query(kind, lent) {
                 Progress::Running(next) => next,
-                Progress::Matched(end) => return Progress::Matched(end),
-                Progress::Never(end) => return Progress::Never(end),
-                Progress::Full(end) => return Progress::Full(end),
+                ended => return ended,
             };
         }
         Progress::Running(running)
     }
 
     // One query, as the search makes it.
-    fn make_query<K: Kind, S: Store<K>>(
-        self,
-        kind: &K,
-        table: &mut [Find<K::Config>],
-        store: &mut S,
-    ) -> Progress
-        requires { Ready (K.shape kind.now) self.counts table.old (S.held store.old) (S.limit store.old) }
-        ensures like { Like (view result table.new (S.held store.new))
-            (query (K.shape kind.now) (length table.old) (stood self.counts None table.old (S.held store.old))) }
-        ensures limit { S.limit store.new ≡ S.limit store.old }
-        ensures kept { Kept self.counts table.old result table.new }
-        ensures ready { NextReady (K.shape kind.now) result table.new (S.held store.new) (S.limit store.new) }
+    fn make_query<K: Kind, S: Store<K>>(self, kind: &K, lent: &mut Lent<K::Config, S>) -> Progress
+        requires { Ready (K.shape kind.now) self.counts lent.old.table.now (S.held lent.old.store.now) (S.limit lent.old.store.now) }
+        ensures like { Like (view result lent.new.table.now (S.held lent.new.store.now))
+            (query (K.shape kind.now) (length lent.old.table.now) (stood self.counts None lent.old.table.now (S.held lent.old.store.now))) }
+        ensures same { Same S.limit lent.old lent.new }
+        ensures kept { Kept self.counts lent.old.table.now result lent.new.table.now }
+        ensures ready { NextReady (K.shape kind.now) result lent.new.table.now (S.held lent.new.store.now) (S.limit lent.new.store.now) }
     {
-        let answer = self.expand(kind, table, store);
-        self.query(kind, table, store, answer)
+        let answer = self.expand(kind, lent);
+        self.query(kind, lent, answer)
     }
 
     // The least move that leads back from the row that is being expanded to what the store does not cover.
     fn expand<K: Kind, S: Store<K>>(
         &self,
         kind: &K,
-        table: &[Find<K::Config>],
-        store: &S,
+        lent: &Lent<K::Config, S>,
     ) -> Option<(Move, K::Config)>
-        requires { length table.now ≡ self.now.counts.rows }
-        ensures { Answered (K.shape kind.now) self.now.counts table.now (S.held store.now) result }
+        requires { length lent.now.table.now ≡ self.now.counts.rows }
+        ensures { Answered (K.shape kind.now) self.now.counts lent.now.table.now (S.held lent.now.store.now) result }
     {
         let row = self.counts.row;
-        least_move(kind, store, table[row].configuration)
+        least_move(kind, lent.store, lent.table[row].configuration)
     }
 }

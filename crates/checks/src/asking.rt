@@ -1,8 +1,8 @@
 // What the calls of a check ask before they do anything.
-ghost use Rattle.std.specs.Prelude.{◌≡◌, ◌≤◌, length, Some, None, MatchResult, ◌==◌};
-ghost use Rattle.checks.specs.Questions.{is_grant, admitted, open_refusal, unaltered, store_kept, advance_refusal};
+ghost use Rattle.std.specs.Prelude.{◌≡◌, ◌≢◌, ◌≤◌, true, false, ◌&&◌, length, Some, None, MatchResult};
+ghost use Rattle.checks.specs.Questions.{admitted, open_refusal, unaltered, store_kept, advance_refusal};
 
-use crate::advancing::MAX_GRANT;
+use crate::advancing::ask_grant;
 use crate::counts::Counts;
 use finds::is_intact;
 use finds::refusals::Refused;
@@ -30,51 +30,75 @@ pub(crate) fn ask_open<K: Kind, S: Store<K>>(
     }
 }
 
-// How many queries are made where a check with these counts is granted so many over this table and store: all of them,
-// or none, as the call is refused.
-pub(crate) fn ask_advance<K: Kind, S: Store<K>>(
-    counts: Counts,
-    kind: &K,
-    table: &[Find<K::Config>],
-    store: &S,
-    grant: u32,
-) -> Result<u32, Refused>
-    requires { counts.finds ≤ counts.rows }
-    ensures { MatchResult result
-        (λ n. (advance_refusal (K.shape kind.now) counts table.now (S.held store.now) (S.limit store.now) grant ≡ None) × (n ≡ grant))
-        (λ e. advance_refusal (K.shape kind.now) counts table.now (S.held store.now) (S.limit store.now) grant ≡ Some e) }
-{
-    if !(is_unaltered(counts, kind, table) && is_store_kept::<K, S>(counts, store)) {
-        return Err(Refused::Altered);
+impl Counts {
+    // Done if a check with these counts may be advanced by so many queries over this table and store.
+    pub(crate) fn ask_advance<K: Kind, S: Store<K>>(
+        self,
+        kind: &K,
+        table: &[Find<K::Config>],
+        store: &S,
+        grant: u32,
+    ) -> Result<(), Refused>
+        requires { self.finds ≤ self.rows }
+        ensures { MatchResult result
+            (λ _. advance_refusal (K.shape kind.now) self table.now (S.held store.now) (S.limit store.now) grant ≡ None)
+            (λ e. advance_refusal (K.shape kind.now) self table.now (S.held store.now) (S.limit store.now) grant ≡ Some e) }
+    {
+        self.ask_lent(kind, table, store)?;
+        ask_grant(grant)
     }
-    if 1 <= grant && grant <= MAX_GRANT {
-        Ok(grant)
-    } else {
-        Err(Refused::Grant)
+
+    // Done if table and store are as the check left them.
+    pub(crate) fn ask_lent<K: Kind, S: Store<K>>(
+        self,
+        kind: &K,
+        table: &[Find<K::Config>],
+        store: &S,
+    ) -> Result<(), Refused>
+        requires { self.finds ≤ self.rows }
+        ensures { MatchResult result
+            (λ _. (unaltered (K.shape kind.now) self table.now && store_kept self (S.held store.now) (S.limit store.now)) ≡ true)
+            (λ e. ((unaltered (K.shape kind.now) self table.now && store_kept self (S.held store.now) (S.limit store.now)) ≡ false) × (e ≡ Refused.Altered)) }
+    {
+        self.ask_table(kind, table)?;
+        if store.size() <= self.finds && self.rows <= store.maximum() {
+            Ok(())
+        } else {
+            Err(Refused::Altered)
+        }
     }
-}
 
-// Whether the table is as long as at opening and its recorded rows are as a search records them.
-pub(crate) fn is_unaltered<K: Kind>(counts: Counts, kind: &K, table: &[Find<K::Config>]) -> bool
-    requires { counts.finds ≤ counts.rows }
-    ensures { result ≡ unaltered (K.shape kind.now) counts table.now }
-{
-    let finds = counts.finds;
-    is_as_long(counts, table) && is_intact(kind, counts.starts, &table[0..finds])
-}
+    // Done if the table is as long as at opening and its recorded rows are as a search records them.
+    pub(crate) fn ask_table<K: Kind>(
+        self,
+        kind: &K,
+        table: &[Find<K::Config>],
+    ) -> Result<(), Refused>
+        requires { self.finds ≤ self.rows }
+        ensures { MatchResult result
+            (λ _. unaltered (K.shape kind.now) self table.now ≡ true)
+            (λ e. (unaltered (K.shape kind.now) self table.now ≡ false) × (e ≡ Refused.Altered)) }
+    {
+        self.ask_length(table)?;
+        if is_intact(kind, self.starts, &table[..self.finds]) {
+            Ok(())
+        } else {
+            Err(Refused::Altered)
+        }
+    }
 
-// Whether the table is as long as at opening.
-pub(crate) fn is_as_long<C>(counts: Counts, table: &[Find<C>]) -> bool
-    ensures { result ≡ (length table.now == counts.rows) }
-{
-    table.len() == counts.rows
-}
-
-// Whether the store holds no more than rows are recorded, and may hold as many as the table has rows.
-pub(crate) fn is_store_kept<K: Kind, S: Store<K>>(counts: Counts, store: &S) -> bool
-    ensures { result ≡ store_kept counts (S.held store.now) (S.limit store.now) }
-{
-    store.size() <= counts.finds && counts.rows <= store.maximum()
+    // Done if the table is as long as at opening.
+    pub(crate) fn ask_length<C>(self, table: &[Find<C>]) -> Result<(), Refused>
+        ensures { MatchResult result
+            (λ _. length table.now ≡ self.rows)
+            (λ e. (length table.now ≢ self.rows) × (e ≡ Refused.Altered)) }
+    {
+        if table.len() == self.rows {
+            Ok(())
+        } else {
+            Err(Refused::Altered)
+        }
+    }
 }
 
 // Whether a search of this kind may be made over so many rows.

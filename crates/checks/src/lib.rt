@@ -9,8 +9,8 @@
 pub mod advancing;
 mod asking;
 mod counts;
+mod lending;
 pub mod opening;
 mod querying;
 pub mod reading;
-mod recording;
 pub mod states;

@@ -3,13 +3,14 @@ ghost use Rattle.std.specs.Prelude.{◌≡◌, ◌<◌, ◌≤◌, false, length
 ghost use Rattle.kinds.specs.Certificate.{covered};
 ghost use Rattle.stores.specs.Holding.{Reordered, inserted};
 ghost use Rattle.search.specs.Search.{start as started};
+ghost use Rattle.checks.specs.Lending.{Same};
 ghost use Rattle.checks.specs.View.{counts_of, verdict_of};
 ghost use Rattle.checks.specs.Calls.{Opened, begun_with};
 ghost use Rattle.checks.specs.Questions.{open_refusal};
 
 use crate::asking::ask_open;
 use crate::counts::Counts;
-use crate::recording::record_find;
+use crate::lending::{Lent, record_find};
 use crate::states::{Matched, Never, Progress, Running};
 use finds::refusals::Refused;
 use kinds::Kind;
@@ -32,29 +33,27 @@ pub fn open<K: Kind, S: Store<K>>(
     ensures limit { S.limit store.new ≡ S.limit store.old }
 {
     ask_open(kind, table.len(), store)?;
-    Ok(take_firsts(kind, table, store))
+    let mut lent = Lent { table, store };
+    Ok(take_firsts(kind, &mut lent))
 }
 
 // Takes the first configurations in order, into a table and a store that will do for them.
-fn take_firsts<K: Kind, S: Store<K>>(
-    kind: &K,
-    table: &mut [Find<K::Config>],
-    store: &mut S,
-) -> Progress
-    requires { open_refusal (K.shape kind.now) (length table.old) (S.held store.old) (S.limit store.old) ≡ None }
-    ensures opened { Opened (K.shape kind.now) table.old result table.new (S.held store.new) (S.limit store.new) }
-    ensures limit { S.limit store.new ≡ S.limit store.old }
+fn take_firsts<K: Kind, S: Store<K>>(kind: &K, lent: &mut Lent<K::Config, S>) -> Progress
+    requires { open_refusal (K.shape kind.now) (length lent.old.table.now) (S.held lent.old.store.now) (S.limit lent.old.store.now) ≡ None }
+    ensures opened { Opened (K.shape kind.now) lent.old.table.now result lent.new.table.now (S.held lent.new.store.now) (S.limit lent.new.store.now) }
+    ensures same { Same S.limit lent.old lent.new }
 {
-    let rows = table.len();
+    let rows = lent.table.len();
     let mut finds = 0;
+    // Stays: a kind answers for one number at a time, so this is a range of numbers and no walk over a slice.
     for i in 0..kind.first_count() {
         if let Some(x) = kind.first(i) {
-            if !store.covers(kind, x) {
-                put_first(kind, table, store, finds, x);
+            if !lent.store.covers(kind, x) {
+                put_first(kind, lent, finds, x);
                 finds += 1;
                 if kind.goal(x) {
                     return Progress::Matched(Matched {
-                        counts: begun(rows, finds),
+                        counts: Counts::begun(rows, finds),
                     });
                 }
             }
@@ -64,19 +63,13 @@ fn take_firsts<K: Kind, S: Store<K>>(
 }
 
 // Records a first configuration in row i and puts it into the store.
-fn put_first<K: Kind, S: Store<K>>(
-    kind: &K,
-    table: &mut [Find<K::Config>],
-    store: &mut S,
-    i: usize,
-    x: K::Config,
-)
-    requires room { i < length table.old }
-    requires fresh { covered (K.shape kind.now) (S.held store.old) x ≡ false }
-    requires space { length (S.held store.old) < S.limit store.old }
-    ensures rows { table.new ≡ slice_set table.old i (started x) }
-    ensures items { Reordered (inserted (K.shape kind.now) x (S.held store.old)) (S.held store.new) }
-    ensures limit { S.limit store.new ≡ S.limit store.old }
+fn put_first<K: Kind, S: Store<K>>(kind: &K, lent: &mut Lent<K::Config, S>, i: usize, x: K::Config)
+    requires room { i < length lent.old.table.now }
+    requires fresh { covered (K.shape kind.now) (S.held lent.old.store.now) x ≡ false }
+    requires space { length (S.held lent.old.store.now) < S.limit lent.old.store.now }
+    ensures rows { lent.new.table.now ≡ slice_set lent.old.table.now i (started x) }
+    ensures items { Reordered (inserted (K.shape kind.now) x (S.held lent.old.store.now)) (S.held lent.new.store.now) }
+    ensures same { Same S.limit lent.old lent.new }
 {
     let find = Find {
         configuration: x,
@@ -84,7 +77,7 @@ fn put_first<K: Kind, S: Store<K>>(
         via: 0,
         length: 0,
     };
-    record_find(kind, table, store, i, find);
+    record_find(kind, lent, i, find);
 }
 
 // The check that has recorded so many first configurations, none of them a goal.
@@ -94,23 +87,10 @@ fn start(rows: usize, finds: usize) -> Progress
     ensures counts { counts_of result ≡ begun_with rows finds }
     ensures verdict { verdict_of result ≡ (if nat_lt 0 finds then None else Some Verdict.Never) }
 {
-    let counts = begun(rows, finds);
+    let counts = Counts::begun(rows, finds);
     if finds > 0 {
         Progress::Running(Running { counts })
     } else {
         Progress::Never(Never { counts })
-    }
-}
-
-// The counts of a check that was just opened.
-fn begun(rows: usize, finds: usize) -> Counts
-    ensures { result ≡ begun_with rows finds }
-{
-    Counts {
-        rows,
-        finds,
-        row: 0,
-        starts: finds,
-        queries: 0,
     }
 }

@@ -1,12 +1,13 @@
 // One query, and the row that it may record.
-ghost use Rattle.std.specs.Prelude.{◌≡◌, ◌+◌, ◌<◌, ◌≤◌, false, length, if◌then◌else◌, Some, None, nat_le, nat_lt, slice_set};
+ghost use Rattle.std.specs.Prelude.{◌≡◌, ◌+◌, ◌<◌, ◌≤◌, false, length, if◌then◌else◌, Some, None, nat_lt, slice_set};
 ghost use Rattle.kinds.specs.Certificate.{covered};
 ghost use Rattle.stores.specs.Holding.{Reordered, inserted};
+ghost use Rattle.checks.specs.Lending.{Same};
 ghost use Rattle.checks.specs.View.{counts_of, verdict_of};
 ghost use Rattle.checks.specs.Calls.{Ready, Answered, new_row, noted, passed, made_counts, made_verdict, made_rows, made_item, Put};
 
 use crate::counts::Counts;
-use crate::recording::record_find;
+use crate::lending::{Lent, record_find};
 use crate::states::{Full, Matched, Never, Progress, Running};
 use kinds::{Kind, Move};
 use search::{Find, Verdict};
@@ -18,33 +19,33 @@ impl Running {
     pub(crate) fn query<K: Kind, S: Store<K>>(
         self,
         kind: &K,
-        table: &mut [Find<K::Config>],
-        store: &mut S,
+        lent: &mut Lent<K::Config, S>,
         answer: Option<(Move, K::Config)>,
     ) -> Progress
-        requires ready { Ready (K.shape kind.now) self.counts table.old (S.held store.old) (S.limit store.old) }
-        requires answered { Answered (K.shape kind.now) self.counts table.old (S.held store.old) answer }
-        ensures counts { counts_of result ≡ made_counts self.counts (length table.old) answer }
-        ensures verdict { verdict_of result ≡ made_verdict (K.shape kind.now) self.counts (length table.old) answer }
-        ensures rows { table.new ≡ made_rows self.counts table.old answer }
-        ensures items { Put (K.shape kind.now) (made_item self.counts (length table.old) answer) (S.held store.old) (S.held store.new) }
-        ensures limit { S.limit store.new ≡ S.limit store.old }
+        requires ready { Ready (K.shape kind.now) self.counts lent.old.table.now (S.held lent.old.store.now) (S.limit lent.old.store.now) }
+        requires answered { Answered (K.shape kind.now) self.counts lent.old.table.now (S.held lent.old.store.now) answer }
+        ensures counts { counts_of result ≡ made_counts self.counts (length lent.old.table.now) answer }
+        ensures verdict { verdict_of result ≡ made_verdict (K.shape kind.now) self.counts (length lent.old.table.now) answer }
+        ensures rows { lent.new.table.now ≡ made_rows self.counts lent.old.table.now answer }
+        ensures items { Put (K.shape kind.now) (made_item self.counts (length lent.old.table.now) answer) (S.held lent.old.store.now) (S.held lent.new.store.now) }
+        ensures same { Same S.limit lent.old lent.new }
     {
         let Some((k, x)) = answer else {
             return self.close();
         };
+        let rows = lent.table.len();
         match (self.counts, (k, x)) {
-            (counts, _) if is_full(counts, table) => Progress::Full(Full {
+            (counts, _) if counts.is_full(rows) => Progress::Full(Full {
                 counts: Counts {
                     queries: counts.queries + 1,
                     ..counts
                 },
             }),
             (counts, (k, x)) if kind.goal(x) => Progress::Matched(Matched {
-                counts: note_find(counts, kind, table, store, k, x),
+                counts: counts.note_find(kind, lent, k, x),
             }),
             (counts, (k, x)) => Progress::Running(Running {
-                counts: note_find(counts, kind, table, store, k, x),
+                counts: counts.note_find(kind, lent, k, x),
             }),
         }
     }
@@ -67,44 +68,38 @@ impl Running {
     }
 }
 
-// Whether as many rows are recorded as the table has.
-fn is_full<C>(counts: Counts, table: &[Find<C>]) -> bool
-    ensures { result ≡ nat_le (length table.now) counts.finds }
-{
-    table.len() <= counts.finds
-}
-
-// Records the find in the next row and puts it into the store.
-fn note_find<K: Kind, S: Store<K>>(
-    counts: Counts,
-    kind: &K,
-    table: &mut [Find<K::Config>],
-    store: &mut S,
-    k: Move,
-    x: K::Config,
-) -> Counts
-    requires ready { Ready (K.shape kind.now) counts table.old (S.held store.old) (S.limit store.old) }
-    requires here { counts.row < counts.finds }
-    requires room { counts.finds < length table.old }
-    requires small { length table.old ≤ 4096 }
-    requires counted { counts.queries + counts.starts ≡ counts.finds + counts.row }
-    requires fresh { covered (K.shape kind.now) (S.held store.old) x ≡ false }
-    ensures value { result ≡ noted counts }
-    ensures rows { table.new ≡ slice_set table.old counts.finds (new_row counts table.old k x) }
-    ensures items { Reordered (inserted (K.shape kind.now) x (S.held store.old)) (S.held store.new) }
-    ensures limit { S.limit store.new ≡ S.limit store.old }
-{
-    let length = table[counts.row].length + 1;
-    let find = Find {
-        configuration: x,
-        origin: counts.row,
-        via: k,
-        length,
-    };
-    record_find(kind, table, store, counts.finds, find);
-    Counts {
-        finds: counts.finds + 1,
-        queries: counts.queries + 1,
-        ..counts
+impl Counts {
+    // Records the find in the next row and puts it into the store.
+    fn note_find<K: Kind, S: Store<K>>(
+        self,
+        kind: &K,
+        lent: &mut Lent<K::Config, S>,
+        k: Move,
+        x: K::Config,
+    ) -> Counts
+        requires ready { Ready (K.shape kind.now) self lent.old.table.now (S.held lent.old.store.now) (S.limit lent.old.store.now) }
+        requires here { self.row < self.finds }
+        requires room { self.finds < length lent.old.table.now }
+        requires small { length lent.old.table.now ≤ 4096 }
+        requires counted { self.queries + self.starts ≡ self.finds + self.row }
+        requires fresh { covered (K.shape kind.now) (S.held lent.old.store.now) x ≡ false }
+        ensures value { result ≡ noted self }
+        ensures rows { lent.new.table.now ≡ slice_set lent.old.table.now self.finds (new_row self lent.old.table.now k x) }
+        ensures items { Reordered (inserted (K.shape kind.now) x (S.held lent.old.store.now)) (S.held lent.new.store.now) }
+        ensures same { Same S.limit lent.old lent.new }
+    {
+        let length = lent.table[self.row].length + 1;
+        let find = Find {
+            configuration: x,
+            origin: self.row,
+            via: k,
+            length,
+        };
+        record_find(kind, lent, self.finds, find);
+        Counts {
+            finds: self.finds + 1,
+            queries: self.queries + 1,
+            ..self
+        }
     }
 }

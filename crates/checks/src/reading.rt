@@ -1,13 +1,11 @@
 // What a check tells: its tally, a row, and at the end its sequence or its certificate.
-ghost use Rattle.std.specs.Prelude.{◌≡◌, ◌<◌, ◌≤◌, [], length, take, Some, nat_lt};
-ghost use Rattle.std.specs.List.{slice_get};
+ghost use Rattle.std.specs.Prelude.{◌≡◌, ◌≤◌, [], length, take};
 ghost use Rattle.finds.specs.Results.{Answered};
 ghost use Rattle.search.specs.Search.{cleared_at, length_at, sequence, certificate};
 ghost use Rattle.checks.specs.declared.states.Progress.TheVariants as progress;
 ghost use Rattle.checks.specs.View.{counts_of, verdict_of, view};
 ghost use Rattle.checks.specs.Answers.{tallied, looked, sequence_asked, certificate_asked};
 
-use crate::asking::{is_as_long, is_store_kept, is_unaltered};
 use crate::counts::Counts;
 use crate::states::{Matched, Never, Progress};
 use finds::certificates::write_certificate;
@@ -24,9 +22,7 @@ impl Progress {
         ensures { result ≡ tallied (K.shape kind.now) self.now table.now }
     {
         let counts = self.counts();
-        if !is_unaltered(counts, kind, table) {
-            return Err(Refused::Altered);
-        }
+        counts.ask_table(kind, table)?;
         Ok(Tally {
             verdict: self.verdict(),
             finds: counts.finds,
@@ -46,13 +42,10 @@ impl Progress {
         ensures { result ≡ looked (K.shape kind.now) self.now table.now row }
     {
         let counts = self.counts();
-        if !is_unaltered(counts, kind, table) {
-            return Err(Refused::Altered);
-        }
-        if is_recorded(counts, row) {
-            Ok(row_at(table, row))
-        } else {
-            Err(Refused::NoRow)
+        counts.ask_table(kind, table)?;
+        match table[..counts.finds].get(row) {
+            Some(find) => Ok(copied(find)),
+            None => Err(Refused::NoRow),
         }
     }
 
@@ -86,8 +79,8 @@ impl Progress {
         ensures { result ≡ cleared_at (verdict_of self.now) (length_at (take (counts_of self.now).finds table.now) (counts_of self.now).row) }
     {
         match self {
-            Progress::Running(check) => length_at(table, check.counts),
-            Progress::Full(check) => length_at(table, check.counts),
+            Progress::Running(check) => check.counts.length_at(table),
+            Progress::Full(check) => check.counts.length_at(table),
             Progress::Matched(_) | Progress::Never(_) => 0,
         }
     }
@@ -105,11 +98,9 @@ impl Matched {
         ensures { Answered (sequence (K.shape kind.now) (view (progress.Matched self.now) table.now []))
             (sequence_asked (K.shape kind.now) self.now.counts table.now (length list.old)) list.old list.new result }
     {
-        let finds = self.counts.finds;
-        if !is_as_long(self.counts, table) {
-            return Err(Refused::Altered);
-        }
-        write_sequence(kind, self.counts.starts, &table[0..finds], list)
+        let counts = self.counts;
+        counts.ask_length(table)?;
+        write_sequence(kind, counts.starts, &table[..counts.finds], list)
     }
 }
 
@@ -127,39 +118,20 @@ impl Never {
             (certificate_asked (K.shape kind.now) self.now.counts table.now (S.held store.now) (S.limit store.now) (length list.old)) list.old list.new result }
     {
         let counts = self.counts;
-        if !(is_unaltered(counts, kind, table) && is_store_kept::<K, S>(counts, store)) {
-            return Err(Refused::Altered);
-        }
-        let finds = counts.finds;
-        write_certificate(kind, store, &table[0..finds], list)
+        counts.ask_lent(kind, table, store)?;
+        write_certificate(kind, store, &table[..counts.finds], list)
     }
 }
 
-// The length of the row that is being expanded.
-fn length_at<C>(table: &[Find<C>], counts: Counts) -> usize
-    requires here { counts.row < counts.finds }
-    requires room { counts.finds ≤ length table.now }
-    ensures { result ≡ length_at (take counts.finds table.now) counts.row }
-{
-    table[counts.row].length
-}
-
-// Whether the row is recorded.
-fn is_recorded(counts: Counts, row: usize) -> bool
-    ensures { result ≡ nat_lt row counts.finds }
-{
-    row < counts.finds
-}
-
 // A row, field by field.
-fn row_at<C: Copy>(table: &[Find<C>], row: usize) -> Find<C>
-    requires { row < length table.now }
-    ensures { slice_get table.now row ≡ Some result }
+// Stays: a rule of the project has finds read field by field, and written whole.
+fn copied<C: Copy>(find: &Find<C>) -> Find<C>
+    ensures { result ≡ find.now }
 {
     Find {
-        configuration: table[row].configuration,
-        origin: table[row].origin,
-        via: table[row].via,
-        length: table[row].length,
+        configuration: find.configuration,
+        origin: find.origin,
+        via: find.via,
+        length: find.length,
     }
 }

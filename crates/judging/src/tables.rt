@@ -12,7 +12,7 @@ use files::reading::read_pattern;
 use pattern_checks::run_pattern;
 use pattern_kinds::pattern::Single;
 use patterns::row::Row;
-use scripts::{Answer, Call, Step};
+use scripts::{Call, Step};
 use search::Find;
 use std::alloc::{AllocError, Global};
 use stores::list::ListStore;
@@ -63,7 +63,7 @@ fn judge_pattern(heap: Global, pattern: &Single) -> Result<String, AllocError>
     let mut store = ListStore::new(&mut held);
     let mut script = [Step {
         call: Call::Advance(MAX_GRANT),
-        answer: Answer::Unmade,
+        answer: None,
     }];
     match run_pattern(pattern, &mut table, &mut store, &mut script) {
         Ok(progress) => end_text(heap, pattern, &table, &store, progress),

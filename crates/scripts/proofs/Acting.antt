@@ -1,14 +1,15 @@
 -- One call on a check. Assumes nothing.
-use Rattle.std.proofs.Common.{◌≡◌, ℕ, Bool, true, false, cond, ◌&&◌, List, length, is_some, Some, None, sym, refl, ap, ◌∙◌, subst}
+use Rattle.std.proofs.Common.{◌≡◌, ℕ, Bool, true, false, cond, ◌&&◌, List, length, is_some, Some, None, Ok, Err, Option, Result, sym, refl, ap, ◌∙◌, subst}
 use Rattle.std.proofs.lemmas.Bool.{cond-true, cond-false, and_from}
 use Rattle.kinds.specs.Shape.{Shape}
 use Rattle.kinds.proofs.Values.{none_some}
 use Rattle.search.specs.declared.Find.{Find}
+use Rattle.search.specs.declared.Verdict.{Verdict}
 use Rattle.search.specs.Search.{State, queried}
 use Rattle.search.specs.Like.{Like, holding}
 use Rattle.search.proofs.Counting.{queried_ended}
 use Rattle.search.proofs.Orders.{like_refl}
-use Rattle.finds.specs.declared.refusals.Refused as finds
+use Rattle.finds.specs.declared.refusals.Refused.{Refused}
 use Rattle.finds.specs.declared.refusals.Refused.TheVariants.{Grant}
 use Rattle.checks.specs.declared.counts.Counts.{Counts}
 use Rattle.checks.specs.declared.states.Progress.{Progress}
@@ -19,8 +20,8 @@ use Rattle.checks.proofs.Refusing.{ready_unaltered, ready_kept}
 use Rattle.checks.proofs.Turning.{none_made, kept_same}
 use Rattle.scripts.specs.declared.Call.{Call}
 use Rattle.scripts.specs.declared.Call.TheVariants.{Advance, Tally, Look}
-use Rattle.scripts.specs.declared.Answer.{Answer}
-use Rattle.scripts.specs.declared.Answer.TheVariants.{Advanced, Refused}
+use Rattle.scripts.specs.declared.Reply.{Reply}
+use Rattle.scripts.specs.declared.Reply.TheVariants.{Advanced}
 use Rattle.scripts.specs.Scripts.{grant_of, answer_to, Acted}
 
 -- the answer does not depend on the order of what is held
@@ -34,20 +35,20 @@ answer_like {C = C} c t u l = ap (λ (w : State C). answer_to w c) l.same ∙ wh
 
 module _ {C : Type 0} (s : Shape C) where
   -- a call that grants nothing
-  pub acted_idle : (p : Progress) (t : List (Find C)) (h : List C) (c : Call) (a : Answer C) → grant_of c ≡ 0 → a ≡ answer_to (view p t h) c → Acted s p t h c p t h a
-  acted_idle p t h c a e q = record {
-    like = subst (λ (n : ℕ). Like (view p t h) (queried s (length t) n (view p t h))) (sym e) (none_made s (length t) (view p t h));
+  pub acted_idle : (p : Progress) (t : List (Find C)) (h : List C) (c d : Call) (a : Result (Reply C) Refused) → c ≡ d → grant_of d ≡ 0 → a ≡ answer_to (view p t h) d → Acted s p t h c p t h a
+  acted_idle p t h c d a e z q = record {
+    like = subst (λ (n : ℕ). Like (view p t h) (queried s (length t) n (view p t h))) (sym (ap grant_of e ∙ z)) (none_made s (length t) (view p t h));
     kept = kept_same (counts_of p) t p refl;
-    answer = q;
+    answer = q ∙ ap (answer_to (view p t h)) (sym e);
   }
 
   -- a grant after the verdict
-  pub acted_ended : (g : ℕ) (p p' : Progress) (t : List (Find C)) (h : List C) (a : Answer C) → p ≡ p' → is_some (verdict_of p') ≡ true
-      → a ≡ cond (is_grant g) (Advanced (verdict_of p')) (Refused Grant) → Acted s p t h (Advance g) p' t h a
-  acted_ended g p p' t h a e ended q = subst (λ (v : Progress). Acted s v t h (Advance g) p' t h a) (sym e) record {
-    like = subst (Like (view p' t h)) (sym (queried_ended s (length t) (grant_of (Advance g)) (view p' t h) ended)) (like_refl (view p' t h));
-    kept = kept_same (counts_of p') t p' refl;
-    answer = q;
+  pub acted_ended : (g : ℕ) (p : Progress) (t : List (Find C)) (h : List C) (a : Result (Reply C) Refused) → is_some (verdict_of p) ≡ true
+      → (v : Option Verdict) → v ≡ verdict_of p → a ≡ cond (is_grant g) (Ok (Advanced v)) (Err Grant) → Acted s p t h (Advance g) p t h a
+  acted_ended g p t h a ended v e q = record {
+    like = subst (Like (view p t h)) (sym (queried_ended s (length t) (grant_of (Advance g)) (view p t h) ended)) (like_refl (view p t h));
+    kept = kept_same (counts_of p) t p refl;
+    answer = q ∙ ap (λ (w : Option Verdict). cond (is_grant g) (Ok (Advanced w)) (Err Grant)) e;
   }
 
   -- a grant that is refused, though table and store are ready, is no grant
@@ -58,24 +59,17 @@ module _ {C : Type 0} (s : Shape C) where
     opens : advance_refusal s n t h l g ≡ cond (is_grant g) None (Some Grant)
     opens = cond-true _ _ _ asked
 
-    pub no_grant : (e : finds.Refused) → advance_refusal s n t h l g ≡ Some e → (is_grant g ≡ false) × (e ≡ Grant)
+    pub no_grant : (e : Refused) → advance_refusal s n t h l g ≡ Some e → (is_grant g ≡ false) × (e ≡ Grant)
     no_grant e q = go (is_grant g) (sym opens ∙ q)
       where
         go : (b : Bool) → cond b None (Some Grant) ≡ Some e → (b ≡ false) × (e ≡ Grant)
         go true r = none_some refl r
         go false r = (refl, cc)
 
-    pub a_grant : advance_refusal s n t h l g ≡ None → is_grant g ≡ true
-    a_grant q = go (is_grant g) (sym opens ∙ q)
-      where
-        go : (b : Bool) → cond b None (Some Grant) ≡ None → b ≡ true
-        go true r = refl
-        go false r = none_some r refl
-
-  pub acted_refused : (g : ℕ) (p p' : Progress) (t t' : List (Find C)) (h h' : List C) (e : finds.Refused) → p' ≡ p → t' ≡ t → h' ≡ h → is_grant g ≡ false → e ≡ Grant
-      → Acted s p t h (Advance g) p' t' h' (Refused e)
+  pub acted_refused : (g : ℕ) (p p' : Progress) (t t' : List (Find C)) (h h' : List C) (e : Refused) → p' ≡ p → t' ≡ t → h' ≡ h → is_grant g ≡ false → e ≡ Grant
+      → Acted s p t h (Advance g) p' t' h' (Err e)
   acted_refused g p p' t t' h h' e a b c d f =
-      subst (λ (v : Progress). Acted s p t h (Advance g) v t' h' (Refused e)) (sym a)
-      (subst (λ (v : List (Find C)). Acted s p t h (Advance g) p v h' (Refused e)) (sym b)
-      (subst (λ (v : List C). Acted s p t h (Advance g) p t v (Refused e)) (sym c)
-      (acted_idle p t h (Advance g) (Refused e) (cond-false _ _ _ d) (ap Refused f ∙ sym (cond-false _ _ _ d)))))
+      subst (λ (v : Progress). Acted s p t h (Advance g) v t' h' (Err e)) (sym a)
+      (subst (λ (v : List (Find C)). Acted s p t h (Advance g) p v h' (Err e)) (sym b)
+      (subst (λ (v : List C). Acted s p t h (Advance g) p t v (Err e)) (sym c)
+      (acted_idle p t h (Advance g) (Advance g) (Err e) refl (cond-false _ _ _ d) (ap Err f ∙ sym (cond-false _ _ _ d)))))

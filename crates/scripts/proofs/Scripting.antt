@@ -1,5 +1,5 @@
 -- Calls one after another. Assumes nothing.
-use Rattle.std.proofs.Common.{◌≡◌, ℕ, zero, suc, ◌+◌, ◌<◌, ◌≤◌, List, [], ◌∷◌, ◌++◌, length, get_or, take, drop, set, Some, sym, refl, ap, ◌∙◌, subst, append_assoc, add-one, arith, length-set, length-take}
+use Rattle.std.proofs.Common.{◌≡◌, ℕ, zero, suc, ◌+◌, ◌<◌, ◌≤◌, List, [], ◌∷◌, ◌++◌, length, get_or, take, drop, set, Some, Result, sym, refl, ap, ◌∙◌, subst, append_assoc, add-one, arith, length-set, length-take}
 use Rattle.std.specs.List.{slice_get}
 use Rattle.std.proofs.lemmas.List.{take_more_set, take_all, append-nil}
 use Rattle.std.proofs.lemmas.Option.{slice_get-get_or}
@@ -20,7 +20,8 @@ use Rattle.checks.specs.Calls.{Ready, Kept, Stands, Opened}
 use Rattle.checks.proofs.Stepping.{drop_set}
 use Rattle.checks.proofs.Starting.{entry_left, none_left}
 use Rattle.checks.proofs.Turning.{drop_past, kept_same, kept_trans, goes_on}
-use Rattle.scripts.specs.declared.Answer.{Answer}
+use Rattle.finds.specs.declared.refusals.Refused.{Refused}
+use Rattle.scripts.specs.declared.Reply.{Reply}
 use Rattle.scripts.specs.declared.Step.{Step}
 use Rattle.scripts.specs.Scripts.{grant_of, granted, answer_to, made, Acted, Ran}
 use Rattle.scripts.proofs.Acting.{answer_like}
@@ -71,7 +72,7 @@ module _ {C : Type 0} (s : Shape C) (laws : Laws s) (p₀ : Progress) (t₀ : Li
     }
 
     -- one call more
-    module _ (lt : i < length ys) (d : Step C) (p' : Progress) (t' : List (Find C)) (h' : List C) (a : Answer C) (acted : Acted s p t h (get_or ys i d).call p' t' h' a) where
+    module _ (lt : i < length ys) (d : Step C) (p' : Progress) (t' : List (Find C)) (h' : List C) (a : Result (Reply C) Refused) (acted : Acted s p t h (get_or ys i d).call p' t' h' a) where
       abbrev now : Step C
       now = get_or ys i d
 
@@ -92,14 +93,14 @@ module _ {C : Type 0} (s : Shape C) (laws : Laws s) (p₀ : Progress) (t₀ : Li
           (subst (λ (r : ℕ). Like (view p' t' h') (queried s r (grant_of now.call) (view p t h))) under.long acted.like) under.like).like
 
       abbrev next : Step C
-      next = record { call = now.call; answer = a }
+      next = record now { answer = Some a }
 
       more_answers : made s (length t₀) 0 xs ≡ take (i + 1) (set ys i next) ++ made s (length t₀) (granted (take (i + 1) xs)) (drop (i + 1) xs)
       more_answers =
           let b : a ≡ answer_to (after s (length t₀) (q + grant_of now.call)) now.call = acted.answer ∙ answer_like now.call (view p' t' h') _ more_like in
           under.answers
           ∙ ap (λ zs. take i ys ++ made s (length t₀) q zs) here
-          ∙ ap (λ (v : Answer C). take i ys ++ record { call = now.call; answer = v } ∷ made s (length t₀) (q + grant_of now.call) (drop (i + 1) xs)) (sym b)
+          ∙ ap (λ (v : Result (Reply C) Refused). take i ys ++ record { call = now.call; answer = Some v } ∷ made s (length t₀) (q + grant_of now.call) (drop (i + 1) xs)) (sym b)
           ∙ sym (append_assoc (take i ys) (next ∷ []) (made s (length t₀) (q + grant_of now.call) (drop (i + 1) xs)))
           ∙ ap (λ zs. zs ++ made s (length t₀) (q + grant_of now.call) (drop (i + 1) xs)) (sym (take_more_set ys i next lt))
           ∙ ap (λ (n : ℕ). take (i + 1) (set ys i next) ++ made s (length t₀) n (drop (i + 1) xs)) (sym more_granted)

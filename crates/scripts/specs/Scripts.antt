@@ -6,13 +6,14 @@
 -- made s r q xs   the steps xs with their answers, in a search over r rows that was granted q queries before them
 -- Acted           one call, which answered a, took the check p, its table t and its held configurations h to p', t' and h'
 -- Ran             a script xs over the table t: where it leaves the check p, the table t', the store, and the script ys with its answers
-use Rattle.std.specs.Prelude.{◌≡◌, ℕ, ◌+◌, cond, List, [], ◌∷◌, length, drop}
+use Rattle.std.specs.Prelude.{◌≡◌, ℕ, ◌+◌, cond, List, [], ◌∷◌, length, drop, Some, Ok, Err, Result}
 use Rattle.std.specs.List.{slice_get}
 use Rattle.kinds.specs.Shape.{Shape}
 use Rattle.inspector.specs.Inspected.{if_found}
 use Rattle.search.specs.declared.Find.{Find}
 use Rattle.search.specs.Search.{State, queried, after, tally}
 use Rattle.search.specs.Like.{Like}
+use Rattle.finds.specs.declared.refusals.Refused.{Refused}
 use Rattle.finds.specs.declared.refusals.Refused.TheVariants.{Grant, NoRow}
 use Rattle.checks.specs.declared.states.Progress.{Progress}
 use Rattle.checks.specs.View.{counts_of, view}
@@ -20,8 +21,8 @@ use Rattle.checks.specs.Questions.{is_grant}
 use Rattle.checks.specs.Calls.{Ready, Kept, Stands}
 use Rattle.scripts.specs.declared.Call.{Call}
 use Rattle.scripts.specs.declared.Call.TheVariants.{Advance, Tally, Look}
-use Rattle.scripts.specs.declared.Answer.{Answer}
-use Rattle.scripts.specs.declared.Answer.TheVariants.{Advanced, Tallied, Looked, Refused}
+use Rattle.scripts.specs.declared.Reply.{Reply}
+use Rattle.scripts.specs.declared.Reply.TheVariants.{Advanced, Tallied, Looked}
 use Rattle.scripts.specs.declared.Step.{Step}
 
 abbrev pub grant_of : Call → ℕ
@@ -34,17 +35,17 @@ module _ {C : Type 0} where
   granted [] = 0
   granted (x ∷ xs) = grant_of x.call + granted xs
 
-  abbrev pub answer_to : State C → Call → Answer C
-  answer_to t (Advance g) = cond (is_grant g) (Advanced t.verdict) (Refused Grant)
-  answer_to t Tally = Tallied (tally t)
-  answer_to t (Look i) = if_found (slice_get t.finds i) Looked (Refused NoRow)
+  abbrev pub answer_to : State C → Call → Result (Reply C) Refused
+  answer_to t (Advance g) = cond (is_grant g) (Ok (Advanced t.verdict)) (Err Grant)
+  answer_to t Tally = Ok (Tallied (tally t))
+  answer_to t (Look i) = if_found (slice_get t.finds i) (λ y. Ok (Looked y)) (Err NoRow)
 
   module _ (s : Shape C) where
     abbrev pub made : ℕ → ℕ → List (Step C) → List (Step C)
     made r q [] = []
-    made r q (x ∷ xs) = record { call = x.call; answer = answer_to (after s r (q + grant_of x.call)) x.call } ∷ made r (q + grant_of x.call) xs
+    made r q (x ∷ xs) = record { call = x.call; answer = Some (answer_to (after s r (q + grant_of x.call)) x.call) } ∷ made r (q + grant_of x.call) xs
 
-    pub record Acted (p : Progress) (t : List (Find C)) (h : List C) (c : Call) (p' : Progress) (t' : List (Find C)) (h' : List C) (a : Answer C) : Type 0 where
+    pub record Acted (p : Progress) (t : List (Find C)) (h : List C) (c : Call) (p' : Progress) (t' : List (Find C)) (h' : List C) (a : Result (Reply C) Refused) : Type 0 where
       pub like : Like (view p' t' h') (queried s (length t) (grant_of c) (view p t h))
       pub kept : Kept (counts_of p) t p' t'
       pub answer : a ≡ answer_to (view p' t' h') c

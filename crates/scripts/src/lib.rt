@@ -1,16 +1,16 @@
 // A script: a list of calls on one check, and what each answered.
 #![tactic(auto)]
 
-ghost use Rattle.std.specs.Prelude.{◌≡◌, true, [], length, if◌then◌else◌, Some, None, MatchResult};
+ghost use Rattle.std.specs.Prelude.{◌≡◌, true, [], length, if◌then◌else◌, Ok, Err, None, MatchResult};
 ghost use Rattle.finds.specs.declared.refusals.Refused.TheVariants as refused;
 ghost use Rattle.checks.specs.declared.states.Progress.TheVariants as progress;
 ghost use Rattle.checks.specs.View.{counts_of, view};
 ghost use Rattle.checks.specs.Questions.{is_grant, open_refusal, unaltered};
 ghost use Rattle.checks.specs.Calls.{Ready};
-ghost use Rattle.scripts.specs.declared.Answer.TheVariants as answer;
+ghost use Rattle.scripts.specs.declared.Reply.TheVariants as reply;
 ghost use Rattle.scripts.specs.Scripts.{answer_to, Acted, Ran};
 
-use checks::advancing::MAX_GRANT;
+use checks::advancing::ask_grant;
 use checks::opening::open;
 use checks::states::{Progress, Running};
 use finds::refusals::Refused;
@@ -19,7 +19,8 @@ use search::{Find, Tally, Verdict};
 use stores::Store;
 
 // A call on a check.
-#[derive(Clone, Copy)]
+// Stays: a script promises something of any list of calls, so a call is a value that the caller writes, and no closure.
+#[derive(Clone, Copy, PartialEq, Eq, Debug)]
 pub enum Call {
     // Advance by so many queries.
     Advance(u32),
@@ -28,23 +29,20 @@ pub enum Call {
     Look(usize),
 }
 
-// What a call answered.
+// What a call answers that is not refused.
 #[derive(Clone, Copy)]
-pub enum Answer<C> {
-    // The call was not made yet.
-    Unmade,
+pub enum Reply<C> {
     // The verdict, if there is one, once the queries were made. A check that has a verdict already makes none.
     Advanced(Option<Verdict>),
     Tallied(Tally),
     Looked(Find<C>),
-    Refused(Refused),
 }
 
-// A call, and what it answered.
+// A call, and what it answered, if it was made.
 #[derive(Clone, Copy)]
 pub struct Step<C> {
     pub call: Call,
-    pub answer: Answer<C>,
+    pub answer: Option<Result<Reply<C>, Refused>>,
 }
 
 // Opens a check and makes the calls of the script on it, one after another; each answer is written beside its call. A
@@ -69,11 +67,10 @@ pub fn run<K: Kind, S: Store<K>>(
     ensures limit { S.limit store.new ≡ S.limit store.old }
 {
     let mut progress = open(kind, table, store)?;
-    for i in 0..script.len() {
-        let call = script[i].call;
-        let (next, answer) = act(progress, kind, table, store, call);
+    for step in script.iter_mut() {
+        let (next, answer) = act(progress, kind, table, store, step.call);
         progress = next;
-        script[i] = Step { call, answer };
+        step.answer = Some(answer);
     }
     Ok(progress)
 }
@@ -85,7 +82,7 @@ fn act<K: Kind, S: Store<K>>(
     table: &mut [Find<K::Config>],
     store: &mut S,
     call: Call,
-) -> (Progress, Answer<K::Config>)
+) -> (Progress, Result<Reply<K::Config>, Refused>)
     requires { Ready (K.shape kind.now) (counts_of progress) table.old (S.held store.old) (S.limit store.old) }
     ensures acted { Acted (K.shape kind.now) progress table.old (S.held store.old) call result.0 table.new (S.held store.new) result.1 }
     ensures limit { S.limit store.new ≡ S.limit store.old }
@@ -110,19 +107,17 @@ fn advance<K: Kind, S: Store<K>>(
     table: &mut [Find<K::Config>],
     store: &mut S,
     grant: u32,
-) -> (Progress, Answer<K::Config>)
+) -> (Progress, Result<Reply<K::Config>, Refused>)
     requires { Ready (K.shape kind.now) (counts_of progress) table.old (S.held store.old) (S.limit store.old) }
     ensures acted { Acted (K.shape kind.now) progress table.old (S.held store.old) (Call.Advance grant) result.0 table.new (S.held store.new) result.1 }
     ensures limit { S.limit store.new ≡ S.limit store.old }
 {
     match progress {
         Progress::Running(running) => advance_running(running, kind, table, store, grant),
-        Progress::Matched(end) => (
-            Progress::Matched(end),
-            granted_after(grant, Verdict::Matches),
-        ),
-        Progress::Never(end) => (Progress::Never(end), granted_after(grant, Verdict::Never)),
-        Progress::Full(end) => (Progress::Full(end), granted_after(grant, Verdict::Full)),
+        ended => {
+            let answer = granted_after(grant, ended.verdict());
+            (ended, answer)
+        }
     }
 }
 
@@ -132,42 +127,37 @@ fn advance_running<K: Kind, S: Store<K>>(
     table: &mut [Find<K::Config>],
     store: &mut S,
     grant: u32,
-) -> (Progress, Answer<K::Config>)
+) -> (Progress, Result<Reply<K::Config>, Refused>)
     requires { Ready (K.shape kind.now) running.counts table.old (S.held store.old) (S.limit store.old) }
     ensures acted { Acted (K.shape kind.now) (progress.Running running) table.old (S.held store.old) (Call.Advance grant) result.0 table.new (S.held store.new) result.1 }
     ensures limit { S.limit store.new ≡ S.limit store.old }
 {
     match running.advance(kind, table, store, grant) {
         Ok(next) => {
-            let answer = Answer::Advanced(next.verdict());
+            let answer = Ok(Reply::Advanced(next.verdict()));
             (next, answer)
         }
-        Err(back) => {
-            let (running, refused) = back;
-            (Progress::Running(running), Answer::Refused(refused))
-        }
+        Err((running, refused)) => (Progress::Running(running), Err(refused)),
     }
 }
 
-// What a check that has a verdict answers to a grant.
-fn granted_after<C>(grant: u32, verdict: Verdict) -> Answer<C>
-    ensures { result ≡ (if is_grant grant then answer.Advanced (Some verdict) else answer.Refused refused.Grant) }
+// What a check with this verdict answers to a grant.
+fn granted_after<C>(grant: u32, verdict: Option<Verdict>) -> Result<Reply<C>, Refused>
+    ensures { result ≡ (if is_grant grant then Ok (reply.Advanced verdict) else Err refused.Grant) }
 {
-    if 1 <= grant && grant <= MAX_GRANT {
-        Answer::Advanced(Some(verdict))
-    } else {
-        Answer::Refused(Refused::Grant)
-    }
+    ask_grant(grant)?;
+    Ok(Reply::Advanced(verdict))
 }
 
-fn tally<K: Kind>(progress: &Progress, kind: &K, table: &[Find<K::Config>]) -> Answer<K::Config>
+fn tally<K: Kind>(
+    progress: &Progress,
+    kind: &K,
+    table: &[Find<K::Config>],
+) -> Result<Reply<K::Config>, Refused>
     requires { unaltered (K.shape kind.now) (counts_of progress.now) table.now ≡ true }
     ensures { result ≡ answer_to (view progress.now table.now []) Call.Tally }
 {
-    match progress.tally(kind, table) {
-        Ok(tally) => Answer::Tallied(tally),
-        Err(refused) => Answer::Refused(refused),
-    }
+    Ok(Reply::Tallied(progress.tally(kind, table)?))
 }
 
 fn look<K: Kind>(
@@ -175,12 +165,9 @@ fn look<K: Kind>(
     kind: &K,
     table: &[Find<K::Config>],
     row: usize,
-) -> Answer<K::Config>
+) -> Result<Reply<K::Config>, Refused>
     requires { unaltered (K.shape kind.now) (counts_of progress.now) table.now ≡ true }
     ensures { result ≡ answer_to (view progress.now table.now []) (Call.Look row) }
 {
-    match progress.look(kind, table, row) {
-        Ok(find) => Answer::Looked(find),
-        Err(refused) => Answer::Refused(refused),
-    }
+    Ok(Reply::Looked(progress.look(kind, table, row)?))
 }

@@ -1,14 +1,14 @@
 use Rattle.std.proofs.Common.{ℕ, ◌+◌, ◌<◌, ◌≤◌, length, set, sym, refl, ap, ◌∙◌, arith, rules}
 use Rattle.checks.proofs.Stepping.{length_read, length_small}
-use Rattle.checks.proofs.querying.note_find.Goals as goal
+use Rattle.checks.proofs.counts.Counts.note_find.Goals as goal
 
 pub overflow_add-length : goal.overflow_add-length
 overflow_add-length g c =
     let p = c.requires in
-    let lt : c.args.counts.row < length c.args.table.now = omega (arith, p.here, p.room) in
-    let fits : c.args.counts.finds ≤ length c.args.table.now = omega (arith, p.room) in
-    let e = length_read c.args.table.now c.args.counts.row c.index-table-counts.result lt in
-    let b = length_small c.args.counts c.args.table.now fits p.here _ _ _ p.ready p.small in
+    let lt : c.args.self.row < length c.args.lent.now.table.now = omega (arith, p.here, p.room) in
+    let fits : c.args.self.finds ≤ length c.args.lent.now.table.now = omega (arith, p.room) in
+    let e = length_read c.args.lent.now.table.now c.args.self.row c.index-lent-self.result lt in
+    let b = length_small c.args.self c.args.lent.now.table.now fits p.here _ _ _ p.ready p.small in
     search rules
 
 pub record_find-requires : goal.record_find-requires
@@ -19,13 +19,13 @@ record_find-requires g c =
 pub returns : goal.returns
 returns g c =
     let p = c.requires in
-    let n = c.args.counts in
-    let t = c.args.table.now in
+    let n = c.args.self in
+    let t = c.args.lent.now.table.now in
     let lt : n.row < length t = omega (arith, p.here, p.room) in
-    let e = length_read t n.row c.index-table-counts.result lt in
+    let e = length_read t n.row c.index-lent-self.result lt in
     record {
       value = refl;
       rows = c.record_find.ensures.rows ∙ ap (λ (m : ℕ). set t n.finds (record { configuration = c.args.x; origin = n.row; via = c.args.k; length = m + 1 })) (sym e);
       items = c.record_find.ensures.items;
-      limit = c.record_find.ensures.limit;
+      same = c.record_find.ensures.same;
     }
