@@ -1,5 +1,5 @@
 // Whether a file's blocks are right.
-ghost use Rattle.std.specs.Prelude.{◌≡◌, ◌+◌, ◌-◌, ◌*◌, ◌<◌, ◌≤◌, true, false, length, take, drop, is_some, Some, MatchResult, OnOk};
+ghost use Rattle.std.specs.Prelude.{◌≡◌, ◌+◌, ◌≤◌, false, length, take, drop, is_some, Some, MatchResult, OnOk};
 ghost use Rattle.blocks.specs.Bytes.{number};
 ghost use Rattle.blocks.specs.Layout.{check_in, sum_of, used_in};
 ghost use Rattle.blocks.specs.Laws.{Rewritten};

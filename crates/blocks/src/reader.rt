@@ -1,6 +1,6 @@
 // The payload of a file, byte by byte.
-ghost use Rattle.std.specs.Prelude.{◌≡◌, ◌+◌, ◌-◌, ◌*◌, ◌<◌, ◌≤◌, true, false, [], length, take, drop, is_some};
-ghost use Rattle.blocks.specs.Bytes.{number, next_number, next_three_of, head};
+ghost use Rattle.std.specs.Prelude.{◌≡◌, true, [], take, drop, is_some};
+ghost use Rattle.blocks.specs.Bytes.{next_number, next_three_of, head};
 ghost use Rattle.blocks.specs.Layout.{payload};
 ghost use Rattle.blocks.specs.Laws.{Counted};
 ghost use Rattle.blocks.specs.Reading.{rest, Stands, payload_len_of};

@@ -1,5 +1,5 @@
 // A payload laid into blocks.
-ghost use Rattle.std.specs.Prelude.{◌≡◌, ◌+◌, ◌-◌, ◌*◌, ◌<◌, ◌≤◌, cond, ◌++◌, length, take, drop, replicate, is_ok, IfOk};
+ghost use Rattle.std.specs.Prelude.{◌≡◌, ◌+◌, ◌*◌, ◌≤◌, cond, ◌++◌, length, take, drop, is_ok, IfOk};
 ghost use Rattle.blocks.specs.Layout.{block_count, block_of, blocks_of};
 ghost use Rattle.blocks.specs.Laws.{Readable};
 ghost use Rattle.blocks.specs.Writing.{file_len_of, writes};

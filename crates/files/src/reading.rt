@@ -1,5 +1,5 @@
 // Reading a pattern file: every question is asked on the lent bytes, before a table is written.
-ghost use Rattle.std.specs.Prelude.{◌≡◌, ℕ, ◌+◌, ◌*◌, ◌<◌, ◌≤◌, true, false, cond, ◌&&◌, [], ◌++◌, length, take, drop, is_some, is_ok, Some, None, MatchOption, MatchResult, OnOk, nat_le, nat_lt};
+ghost use Rattle.std.specs.Prelude.{◌≡◌, ℕ, ◌+◌, ◌*◌, ◌<◌, ◌≤◌, true, cond, ◌&&◌, [], ◌++◌, length, drop, is_ok, Some, None, MatchResult, OnOk, nat_le};
 ghost use Rattle.blocks.specs.Layout.{payload};
 ghost use Rattle.blocks.specs.Reading.{rest};
 ghost use Rattle.patterns.specs.Questions.{judged, roots_fault, rows_fault, known};

@@ -1,14 +1,13 @@
 // Writing a pattern's file: its tables laid out as a payload, and that laid into blocks.
 ghost use Rattle.std.specs.Prelude.{◌≡◌, ◌+◌, ◌*◌, ◌≤◌, cond, ◌++◌, length, take, drop, is_ok, IfOk, Some, None, Ok, Err, MatchResult, nat_le};
 ghost use Rattle.std.specs.List.{flat_map};
-ghost use Rattle.blocks.specs.Bytes.{bytes_of};
 ghost use Rattle.patterns.specs.Automaton.{read};
 ghost use Rattle.patterns.specs.Formed.{Formed};
 ghost use Rattle.files.specs.declared.fault.RecordCause.TheVariants as record-cause;
 ghost use Rattle.files.specs.declared.fault.RecordFault.TheVariants as record-fault;
 ghost use Rattle.files.specs.declared.fault.TableFault.TheVariants as table-fault;
 ghost use Rattle.files.specs.Laying.{laid};
-ghost use Rattle.files.specs.Layout.{encoded, file_of, heading_bytes, row_bytes_of};
+ghost use Rattle.files.specs.Layout.{encoded, file_of, heading_bytes};
 ghost use Rattle.files.specs.Questions.{write_fault};
 ghost use Rattle.files.specs.RoundTrips.{ReadsBack};
 
