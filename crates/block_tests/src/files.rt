@@ -30,11 +30,7 @@ pub(crate) fn fill(bytes: &mut [u8]) {
 
 // The bytes from place `from` up to `to`, or all of them if there are no such places.
 pub(crate) fn part(bytes: &[u8], from: usize, to: usize) -> &[u8] {
-    if from <= to && to <= bytes.len() {
-        &bytes[from..to]
-    } else {
-        bytes
-    }
+    bytes.get(from..to).unwrap_or(bytes)
 }
 
 // Puts a byte into a block, unless there is no such place.
@@ -56,11 +52,7 @@ pub(crate) fn seal(file: &mut [u8], block: usize) {
     let mut sum: u32 = 0;
     for byte in &file[start..start + 508] {
         weight = weight.wrapping_add(1);
-        sum = sum.wrapping_add(weight.wrapping_mul(*byte as u32));
+        sum = sum.wrapping_add(weight.wrapping_mul(u32::from(*byte)));
     }
-    let check = sum.to_le_bytes();
-    file[start + 508] = check[0];
-    file[start + 509] = check[1];
-    file[start + 510] = check[2];
-    file[start + 511] = check[3];
+    file[start + 508..start + 512].copy_from_slice(&sum.to_le_bytes());
 }

@@ -46,15 +46,13 @@ fn worked_example(rt: HostRuntime) {
 // Hands the payload of `file` to `target`, and says how many bytes that were.
 fn copied(file: &[u8], target: &mut [u8]) -> usize {
     let mut reader = Reader::new(file);
-    let mut count: usize = 0;
-    for byte in target.iter_mut() {
+    for (count, byte) in target.iter_mut().enumerate() {
         let Some(next) = reader.next() else {
-            break;
+            return count;
         };
         *byte = next;
-        count = count.wrapping_add(1);
     }
-    count
+    target.len()
 }
 
 // Writes a payload and reads it, then writes what was read.

@@ -1,7 +1,10 @@
 -- Fronts of lists.
-use Rattle.std.proofs.Common.{◌≡◌, ℕ, ◌+◌, ◌-◌, ◌<◌, ◌≤◌, min, List, ◌++◌, length, take, drop, sym, ap, ◌∙◌, ⊎_elim, arith, length-append, length-drop, length-take}
-use Rattle.std.proofs.lemmas.List.{append_assoc, take_all, take_at, take-take, length-take-le}
+use Rattle.std.proofs.Common.{◌≡◌, ℕ, ◌<◌, ◌≤◌, min, List, [], ◌++◌, length, take, drop, sym, ap, ◌∙◌, ⊎_elim, arith, length-append, length-take}
+use Rattle.std.proofs.lemmas.List.{take_all, take_at, take-take, drop_at, drop_all}
 use Rattle.std.proofs.lemmas.Bool.{cases_lt}
+
+nothing : (xs : List ℕ) → length xs ≡ 0 → xs ≡ []
+nothing xs e = sym (take_all 0 xs (omega arith))
 
 pub take_both : (m n : ℕ) (xs : List ℕ) → take m (take n xs) ≡ take (min m n) xs
 take_both m n xs =
@@ -11,19 +14,18 @@ take_both m n xs =
     (λ (h : n ≤ m). let e : n ≡ min m n = omega arith in take_all m (take n xs) (omega arith) ∙ ap (λ (k : ℕ). take k xs) e)
     (cases_lt m n)
 
--- a part of at most n elements that ends with the list
-pub part_is_front : (xs : List ℕ) (from to n : ℕ) → to ≡ min (from + n) (length xs) → take (to - from) (drop from xs) ≡ take n (drop from xs)
-part_is_front xs from to n h =
-    let rest = drop from xs in
-    let l = length-drop from xs in
-    let e : to - from ≡ min n (length rest) = omega arith in
-    ap (λ (k : ℕ). take k rest) e ∙ sym (take_both n (length rest) rest) ∙ ap (take n) (take_all (length rest) rest (omega arith))
+-- what chunks(504) cuts off xs
+module _ (xs part rest : List ℕ) (e : xs ≡ part ++ rest) (cut : length part ≡ min 504 (length xs)) where
+  pub chunk_front : part ≡ take 504 xs
+  chunk_front =
+      sym (take_at part rest (min 504 (length xs)) cut)
+      ∙ ap (take (min 504 (length xs))) (sym e)
+      ∙ sym (take_both 504 (length xs) xs) ∙ ap (take 504) (take_all (length xs) xs (omega arith))
 
--- the front up to what was written at a place
-pub front_written : (old bytes new : List ℕ) (at n : ℕ) → new ≡ take at old ++ (bytes ++ drop (at + length bytes) old)
-    → at ≤ length old → n ≡ at + length bytes → take n new ≡ take at old ++ bytes
-front_written old bytes new at n e h k =
-    let behind = drop (at + length bytes) old in
-    let l = length-take-le at old h in
-    let m = length-append (take at old) bytes in
-    ap (take n) (e ∙ sym (append_assoc (take at old) bytes behind)) ∙ take_at (take at old ++ bytes) behind n (omega arith)
+  pub chunk_behind : rest ≡ drop 504 xs
+  chunk_behind =
+      let l = ap length e ∙ length-append part rest in
+      ⊎_elim
+      (λ (h : 504 < length xs). sym (ap (drop 504) e ∙ drop_at part rest 504 (omega arith)))
+      (λ (h : length xs ≤ 504). nothing rest (omega arith) ∙ sym (drop_all 504 xs h))
+      (cases_lt 504 (length xs))

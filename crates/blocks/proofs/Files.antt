@@ -1,9 +1,10 @@
 -- Rows of blocks: the steps of a walk over them, and that file and payload give each other.
-use Rattle.std.proofs.Common.{◌≡◌, ℕ, zero, suc, ◌+◌, ◌-◌, ◌*◌, ◌/◌, ◌%◌, ◌<◌, ◌≤◌, Bool, true, false, eqb, leb, List, [], ◌++◌, length, take, drop, is_some, Some, None, Option, sym, refl, ap, ◌∙◌, subst, arith, length-append, length-drop, length-take}
+use Rattle.std.proofs.Common.{◌≡◌, ℕ, zero, suc, ◌+◌, ◌-◌, ◌*◌, ◌/◌, ◌%◌, ◌<◌, ◌≤◌, Bool, true, false, eqb, leb, List, [], ◌++◌, length, get_or, take, drop, is_some, Some, None, Option, sym, refl, ap, ◌∙◌, subst, add_comm, mul-suc, arith, length-append, length-drop, length-take}
 use Rattle.std.proofs.lemmas.List.{append-nil, drop-drop, drop-take, drop_at, take_at, take_all, take-take, take-append-drop, length-take-le}
 use Rattle.std.proofs.ByRecursion.{All-take, All-drop}
 use Rattle.std.proofs.lemmas.Bool.{and_parts, leb-true, eqb-true, ne_eqb}
 use Rattle.std.proofs.lemmas.Bool.Decides.{nat_tests}
+use Rattle.std.specs.Simd.{first_chunks}
 use Rattle.blocks.specs.declared.fault.BlockFault.{BlockFault}
 use Rattle.blocks.specs.declared.fault.BlockCause.TheVariants.{Length}
 use Rattle.blocks.specs.Bytes.{Bytes, number}
@@ -35,23 +36,30 @@ none_first : (o p : Option BlockFault) → is_some o ≡ false → first o p ≡
 none_first None p e = refl
 none_first (Some f) p e = let z : ◌≡◌ {A = Bool} true false = e in cc
 
-part_is_block : (file : List ℕ) (b : ℕ) → take (512 * b + 512 - 512 * b) (drop (512 * b) file) ≡ take 512 (drop (512 * b) file)
-part_is_block file b = let e : 512 * b + 512 - 512 * b ≡ 512 = omega arith in ap (λ (k : ℕ). take k (drop (512 * b) file)) e
+pub chunk_at : (n k i : ℕ) (xs d : List ℕ) (ds : List (List ℕ)) → ds ≡ first_chunks n k xs → i < k → get_or ds i d ≡ take n (drop (n * i) xs)
+chunk_at n zero i xs d ds e h = absurd (omega arith)
+chunk_at n (suc k) zero xs d ds e h =
+    let z : n * 0 ≡ 0 = omega arith in
+    ap (λ (cs : List (List ℕ)). get_or cs 0 d) e ∙ ap (λ (m : ℕ). take n (drop m xs)) (sym z)
+chunk_at n (suc k) (suc i) xs d ds e h =
+    let m : n + n * i ≡ n * suc i = sym (mul-suc n i ∙ add_comm (n * i) n) in
+    ap (λ (cs : List (List ℕ)). get_or cs (suc i) d) e
+    ∙ chunk_at n k i (drop n xs) d (first_chunks n k (drop n xs)) refl (omega arith)
+    ∙ ap (take n) (drop-drop (n * i) n xs ∙ ap (λ (j : ℕ). drop j xs) m)
 
--- one turn of the walk, where the part is the block as the code takes it
-module _ (file : List ℕ) (b n : ℕ) (h : b < n) where
-  pub blocks_pass : is_some (block_fault b (eqb (b + 1) n) (take (512 * b + 512 - 512 * b) (drop (512 * b) file))) ≡ false
+-- one turn of the walk, where the block is the one at place b
+module _ (file block : List ℕ) (b n : ℕ) (h : b < n) (is : block ≡ take 512 (drop (512 * b) file)) where
+  pub blocks_pass : is_some (block_fault b (eqb (b + 1) n) block) ≡ false
       → blocks_fault (n - (b + 1)) (b + 1) (drop (512 * (b + 1)) file) ≡ blocks_fault (n - b) b (drop (512 * b) file)
   blocks_pass p =
       sym (blocks_more file b n h
-      ∙ none_first _ _ (ap (λ (bs : List ℕ). is_some (block_fault b (eqb (b + 1) n) bs)) (sym (part_is_block file b)) ∙ p))
+      ∙ none_first _ _ (ap (λ (bs : List ℕ). is_some (block_fault b (eqb (b + 1) n) bs)) (sym is) ∙ p))
 
-  pub blocks_stop : (f : BlockFault) → block_fault b (eqb (b + 1) n) (take (512 * b + 512 - 512 * b) (drop (512 * b) file)) ≡ Some f
-      → blocks_fault (n - b) b (drop (512 * b) file) ≡ Some f
+  pub blocks_stop : (f : BlockFault) → block_fault b (eqb (b + 1) n) block ≡ Some f → blocks_fault (n - b) b (drop (512 * b) file) ≡ Some f
   blocks_stop f p =
       blocks_more file b n h
       ∙ ap (λ (o : Option BlockFault). first o (blocks_fault (n - (b + 1)) (b + 1) (drop (512 * (b + 1)) file)))
-      (ap (block_fault b (eqb (b + 1) n)) (sym (part_is_block file b)) ∙ p)
+      (ap (block_fault b (eqb (b + 1) n)) (sym is) ∙ p)
 
 -- a row of n right blocks from number b on
 module _ (b n : ℕ) (bytes : List ℕ) (long : length bytes ≡ 512 * suc n) (known : Bytes bytes)

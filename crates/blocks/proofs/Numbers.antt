@@ -1,14 +1,7 @@
 -- Numbers of several bytes: what two parts make together, and that bytes and number give each other.
-use Rattle.std.proofs.Common.{◌≡◌, ℕ, zero, suc, ◌+◌, ◌*◌, ◌/◌, ◌%◌, ◌^◌, ◌<◌, ◌≤◌, List, [], ◌∷◌, length, get_or, take, drop, refl, ap, ◌∙◌, mul_assoc, arith}
+use Rattle.std.proofs.Common.{◌≡◌, ℕ, zero, suc, ◌+◌, ◌*◌, ◌/◌, ◌%◌, ◌^◌, ◌<◌, ◌≤◌, List, [], ◌∷◌, length, take, drop, refl, ap, ◌∙◌, mul_assoc, arith}
 use native.Mathlib.Nat.{pow-succ'}
-use Rattle.std.proofs.lemmas.List.{drop_more}
 use Rattle.blocks.specs.Bytes.{Bytes, number, bytes_of}
-
-pub number_two : (bs : List ℕ) (at : ℕ) → at + 2 ≤ length bs → number (take 2 (drop at bs)) ≡ get_or bs at 0 + 256 * get_or bs (at + 1) 0
-number_two bs at h =
-    let e = drop_more bs at 0 (omega arith) in
-    let f = drop_more bs (at + 1) 0 (omega arith) in
-    ap (λ (xs : List ℕ). number (take 2 xs)) (e ∙ ap (λ (xs : List ℕ). get_or bs at 0 ∷ xs) f) ∙ omega arith
 
 pub number_join : (m n : ℕ) (bs : List ℕ) → m ≤ length bs → number (take (m + n) bs) ≡ number (take m bs) + 256 ^ m * number (take n (drop m bs))
 number_join zero n bs h =

@@ -1,5 +1,5 @@
 -- Weighted sums and runs of zeros.
-use Rattle.std.proofs.Common.{◌≡◌, ℕ, zero, suc, ◌+◌, ◌*◌, ◌<◌, ◌≤◌, true, ◌&&◌, eqb, List, [], ◌∷◌, ◌++◌, length, get_or, take, replicate, refl, ap, ◌∙◌, arith, length-take}
+use Rattle.std.proofs.Common.{◌≡◌, ℕ, zero, suc, ◌+◌, ◌*◌, ◌<◌, ◌≤◌, true, eqb, List, [], ◌∷◌, ◌++◌, length, get_or, take, replicate, refl, ap, ◌∙◌, arith, length-take}
 use Rattle.std.proofs.lemmas.List.{take_more}
 use Rattle.std.proofs.lemmas.Nat.{mul-le}
 use Rattle.std.proofs.lemmas.Bool.{and_parts, eqb-true}
@@ -37,22 +37,12 @@ weighed_le k (x ∷ xs) b h =
     let i = weighed_le (k + 1) xs b.1 (omega arith) in
     omega arith
 
-pub zeros_cons : (x : ℕ) (xs : List ℕ) → zeros (x ∷ xs) ≡ (eqb x 0 && zeros xs)
-unfolding zeros
-zeros_cons x xs = refl
-
-pub zeros_none : zeros [] ≡ true
-unfolding zeros
-zeros_none = refl
-
 pub zeros_are : (xs : List ℕ) → zeros xs ≡ true → xs ≡ replicate (length xs) 0
-unfolding zeros
 zeros_are [] e = refl
 zeros_are (x ∷ xs) e =
     let p = and_parts (eqb x 0) (zeros xs) e in
     ap (λ (y : ℕ). y ∷ xs) (eqb-true x 0 p.0) ∙ ap (λ (ys : List ℕ). 0 ∷ ys) (zeros_are xs p.1)
 
 pub zeros_replicate : (n : ℕ) → zeros (replicate n 0) ≡ true
-unfolding zeros
 zeros_replicate zero = refl
 zeros_replicate (suc n) = zeros_replicate n

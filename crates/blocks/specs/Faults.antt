@@ -6,7 +6,8 @@
 --   zeros bs                   whether all of bs are 0
 --   block_fault b last block   what is wrong with the block at place b
 --   file_fault file limit      what is wrong with a file that may have at most limit bytes
-use Rattle.std.specs.Prelude.{ℕ, zero, suc, ◌+◌, ◌/◌, ◌%◌, Bool, true, cond, ◌&&◌, List, [], ◌∷◌, length, take, drop, Some, None, Option, ◌==◌, nat_le, nat_lt}
+use Rattle.std.specs.Prelude.{ℕ, zero, suc, ◌+◌, ◌/◌, ◌%◌, Bool, cond, ◌&&◌, List, length, take, drop, Some, None, Option, ◌==◌, nat_le, nat_lt}
+use Rattle.std.specs.List.{list_all}
 use Rattle.blocks.specs.declared.fault.BlockFault.{BlockFault}
 use Rattle.blocks.specs.declared.fault.BlockCause.{BlockCause}
 use Rattle.blocks.specs.declared.fault.BlockCause.TheVariants.{Length, Check, Number, Used, Unused}
@@ -28,9 +29,8 @@ length_fits n limit = nat_le 512 n && (nat_le n limit && n % 512 == 0)
 abbrev pub fills : ℕ → Bool → Bool
 fills used last = cond last (nat_lt 0 used && nat_le used 504) (used == 504)
 
-unfoldable pub zeros : List ℕ → Bool
-zeros [] = true
-zeros (b ∷ bs) = b == 0 && zeros bs
+abbrev pub zeros : List ℕ → Bool
+zeros bs = list_all (λ b. b == 0) bs
 
 -- the fault of that cause at that place, unless the question is answered yes
 abbrev pub asked : Bool → BlockCause → ℕ → Option BlockFault → Option BlockFault

@@ -1,7 +1,7 @@
 // Whether a file's blocks are right.
-ghost use Rattle.std.specs.Prelude.{◌≡◌, ◌+◌, ◌-◌, ◌*◌, ◌<◌, ◌≤◌, true, false, length, take, drop, is_some, Some, MatchResult, OnOk};
+ghost use Rattle.std.specs.Prelude.{◌≡◌, ◌+◌, ◌≤◌, false, length, take, drop, is_some, Some, MatchResult, OnOk};
 ghost use Rattle.blocks.specs.Bytes.{number};
-ghost use Rattle.blocks.specs.Layout.{sum_of};
+ghost use Rattle.blocks.specs.Layout.{check_in, sum_of, used_in};
 ghost use Rattle.blocks.specs.Laws.{Rewritten};
 ghost use Rattle.blocks.specs.Faults.{length_fits, fills, zeros, block_fault, file_fault};
 
@@ -26,10 +26,9 @@ pub fn check_file(file: &[u8], limit: usize) -> Result<(), BlockFault>
             place: len,
         });
     }
-    let count = len / BLOCK_LEN;
-    for b in 0..count {
-        let start = BLOCK_LEN * b;
-        check_block(&file[start..start + BLOCK_LEN], b, b + 1 == count)?;
+    let (blocks, _) = file.as_chunks::<BLOCK_LEN>();
+    for (place, block) in blocks.iter().enumerate() {
+        check_block(block, place, place + 1 == blocks.len())?;
     }
     Ok(())
 }
@@ -42,27 +41,24 @@ fn may_have(len: usize, limit: usize) -> bool
 }
 
 // The questions about one block, at place `place` of its file.
-fn check_block(block: &[u8], place: usize, last: bool) -> Result<(), BlockFault>
-    requires { length block.now ≡ 512 }
+fn check_block(block: &[u8; BLOCK_LEN], place: usize, last: bool) -> Result<(), BlockFault>
     ensures { MatchResult result
         (λ _. is_some (block_fault place last block.now) ≡ false)
         (λ f. block_fault place last block.now ≡ Some f) }
 {
-    let sum = weigh(block);
-    let check = read_u32(block, CHECKED_LEN);
-    if check != sum {
+    if read_check(block) != weigh(block) {
         return Err(BlockFault {
             cause: BlockCause::Check,
             place,
         });
     }
-    if read_u16(block, 0) as usize != place {
+    if usize::from(read_u16(block, 0)) != place {
         return Err(BlockFault {
             cause: BlockCause::Number,
             place,
         });
     }
-    let used = read_u16(block, 2) as usize;
+    let used = usize::from(read_used(block));
     if !may_use(used, last) {
         return Err(BlockFault {
             cause: BlockCause::Used,
@@ -90,26 +86,35 @@ fn may_use(used: usize, last: bool) -> bool
 }
 
 // The sum of (i + 1) times byte i, for the 508 bytes before the check.
-pub(crate) fn weigh(block: &[u8]) -> u32
-    requires { 508 ≤ length block.now }
+pub(crate) fn weigh(block: &[u8; BLOCK_LEN]) -> u32
     ensures { result ≡ sum_of block.now }
 {
     let mut sum = 0;
-    for i in 0..CHECKED_LEN {
-        sum += (i as u32 + 1) * block[i] as u32;
+    for (i, byte) in block[..CHECKED_LEN].iter().enumerate() {
+        sum += (i as u32 + 1) * u32::from(*byte);
     }
     sum
+}
+
+// The check that a block ends with.
+fn read_check(block: &[u8; BLOCK_LEN]) -> u32
+    ensures { result ≡ check_in block.now }
+{
+    let [.., first, second, third, fourth] = *block;
+    u32::from_le_bytes([first, second, third, fourth])
+}
+
+// How many payload bytes a block says that it uses.
+pub(crate) fn read_used(block: &[u8; BLOCK_LEN]) -> u16
+    ensures { result ≡ used_in block.now }
+{
+    read_u16(block, 2)
 }
 
 fn all_zero(bytes: &[u8]) -> bool
     ensures { result ≡ zeros bytes.now }
 {
-    for byte in bytes {
-        if *byte != 0 {
-            return false;
-        }
-    }
-    true
+    bytes.iter().all(|byte| *byte == 0)
 }
 
 // The number in the two bytes from `at` on.
@@ -117,13 +122,5 @@ pub(crate) fn read_u16(bytes: &[u8], at: usize) -> u16
     requires { at + 2 ≤ length bytes.now }
     ensures { result ≡ number (take 2 (drop at bytes.now)) }
 {
-    bytes[at] as u16 + 256 * bytes[at + 1] as u16
-}
-
-// The number in the four bytes from `at` on.
-fn read_u32(bytes: &[u8], at: usize) -> u32
-    requires { at + 4 ≤ length bytes.now }
-    ensures { result ≡ number (take 4 (drop at bytes.now)) }
-{
-    read_u16(bytes, at) as u32 + 65_536 * read_u16(bytes, at + 2) as u32
+    u16::from_le_bytes([bytes[at], bytes[at + 1]])
 }

@@ -2,19 +2,19 @@
 ghost use Rattle.std.specs.Prelude.{◌≡◌};
 ghost use Rattle.blocks.specs.Faults.{refusal};
 
-// Which question about the blocks was answered no.
+// Which question about the blocks was answered no, with the number under which that is refused.
 #[derive(Clone, Copy, PartialEq, Eq, Debug)]
 pub enum BlockCause {
     // The file's length is below 512, above the limit or no multiple of 512.
-    Length,
+    Length = 20,
     // A block's check is not the weighted sum of the bytes before it.
-    Check,
+    Check = 21,
     // A block's number is not its place in the file.
-    Number,
+    Number = 22,
     // A block other than the last does not use 504 bytes, or the last one not 1 to 504.
-    Used,
+    Used = 23,
     // A payload byte behind those in use is not zero.
-    Unused,
+    Unused = 24,
 }
 
 // A cause with its place: the file's length under `Length`, otherwise the block's place from 0.
@@ -29,13 +29,7 @@ impl BlockFault {
     pub fn number(self) -> u8
         ensures { result ≡ (refusal self).0 }
     {
-        match self.cause {
-            BlockCause::Length => 20,
-            BlockCause::Check => 21,
-            BlockCause::Number => 22,
-            BlockCause::Used => 23,
-            BlockCause::Unused => 24,
-        }
+        self.cause as u8
     }
 
     // The place that the refusal names.

@@ -1,11 +1,11 @@
 // The payload of a file, byte by byte.
-ghost use Rattle.std.specs.Prelude.{◌≡◌, ◌+◌, ◌-◌, ◌*◌, ◌<◌, ◌≤◌, true, false, [], length, take, drop, is_some};
-ghost use Rattle.blocks.specs.Bytes.{number, next_number, next_three_of, head};
+ghost use Rattle.std.specs.Prelude.{◌≡◌, true, [], take, drop, is_some};
+ghost use Rattle.blocks.specs.Bytes.{next_number, next_three_of, head};
 ghost use Rattle.blocks.specs.Layout.{payload};
 ghost use Rattle.blocks.specs.Laws.{Counted};
 ghost use Rattle.blocks.specs.Reading.{rest, Stands, payload_len_of};
 
-use crate::check::read_u16;
+use crate::check::{read_u16, read_used};
 use crate::{BLOCK_LEN, PAYLOAD_LEN};
 
 // How many bytes the payload of a file has: the number of blocks and the last used count tell it.
@@ -14,20 +14,11 @@ pub fn payload_len(file: &[u8]) -> usize
     ensures value { result ≡ payload_len_of file.now }
     ensures len { Counted file.now result }
 {
-    let count = file.len() / BLOCK_LEN;
-    if count == 0 {
-        0
-    } else {
-        counted_len(file, count - 1)
+    let (blocks, _) = file.as_chunks::<BLOCK_LEN>();
+    match blocks.split_last() {
+        None => 0,
+        Some((last, before)) => PAYLOAD_LEN * before.len() + usize::from(read_used(last)),
     }
-}
-
-// The payload bytes of `before` full blocks and of the block behind them.
-fn counted_len(file: &[u8], before: usize) -> usize
-    requires { 512 * before + 512 ≤ length file.now }
-    ensures { result ≡ 504 * before + number (take 2 (drop (512 * before + 2) file.now)) }
-{
-    PAYLOAD_LEN * before + read_u16(file, BLOCK_LEN * before + 2) as usize
 }
 
 // Walks the payload of the lent file without a copy.
@@ -95,7 +86,7 @@ impl<'a> Reader<'a> {
     {
         let low = self.next()?;
         let high = self.next()?;
-        Some(low as u16 + 256 * high as u16)
+        Some(u16::from_le_bytes([low, high]))
     }
 
     // The three numbers in the next six bytes, or none if there are fewer; these are then passed over.
@@ -135,7 +126,7 @@ impl<'a> Reader<'a> {
     {
         let low = self.next_u32()?;
         let high = self.next_u32()?;
-        Some(low as u64 + 4_294_967_296 * high as u64)
+        Some(u64::from(low) + 4_294_967_296 * u64::from(high))
     }
 
     fn next_u32(&mut self) -> Option<u32>
@@ -145,7 +136,7 @@ impl<'a> Reader<'a> {
     {
         let low = self.next_u16()?;
         let high = self.next_u16()?;
-        Some(low as u32 + 65_536 * high as u32)
+        Some(u32::from(low) + 65_536 * u32::from(high))
     }
 
     // Goes on to the next block with bytes in use, and says whether there is one.
@@ -156,9 +147,10 @@ impl<'a> Reader<'a> {
         ensures same { self.new.file.now ≡ self.old.file.now }
         ensures test { result ≡ true → Stands self.new }
     {
+        // Stays: the place to go on from is the reader's own, and a `for` over the blocks behind it would keep a second.
         while self.file.len().saturating_sub(self.block) >= BLOCK_LEN {
             let start = self.block;
-            let used = (read_u16(self.file, start + 2) as usize).min(PAYLOAD_LEN);
+            let used = usize::from(read_u16(self.file, start + 2)).min(PAYLOAD_LEN);
             self.block = start + BLOCK_LEN;
             self.place = start + 4;
             self.end = start + 4 + used;

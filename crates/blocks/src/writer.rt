@@ -1,5 +1,5 @@
 // A payload laid into blocks.
-ghost use Rattle.std.specs.Prelude.{◌≡◌, ◌+◌, ◌-◌, ◌*◌, ◌<◌, ◌≤◌, cond, ◌++◌, length, take, drop, replicate, is_ok, IfOk};
+ghost use Rattle.std.specs.Prelude.{◌≡◌, ◌+◌, ◌*◌, ◌≤◌, cond, ◌++◌, length, take, drop, is_ok, IfOk};
 ghost use Rattle.blocks.specs.Layout.{block_count, block_of, blocks_of};
 ghost use Rattle.blocks.specs.Laws.{Readable};
 ghost use Rattle.blocks.specs.Writing.{file_len_of, writes};
@@ -55,46 +55,23 @@ fn write_blocks(payload: &[u8], buffer: &mut [u8])
     ensures { buffer.new
         ≡ blocks_of payload.now ++ drop (512 * block_count (length payload.now)) buffer.old }
 {
-    let count = payload.len().div_ceil(PAYLOAD_LEN);
-    for b in 0..count {
+    for (b, part) in payload.chunks(PAYLOAD_LEN).enumerate() {
         let start = BLOCK_LEN * b;
-        let first = PAYLOAD_LEN * b;
-        let last = (first + PAYLOAD_LEN).min(payload.len());
-        write_block(
-            &mut buffer[start..start + BLOCK_LEN],
-            b as u16,
-            &payload[first..last],
-        );
+        buffer[start..start + BLOCK_LEN].copy_from_slice(&make_block(b as u16, part));
     }
 }
 
-fn write_block(block: &mut [u8], number: u16, part: &[u8])
-    requires whole { length block.old ≡ 512 }
-    requires short { length part.now ≤ 504 }
-    ensures { block.new ≡ block_of number part.now }
+// Block `number` with these bytes in use.
+fn make_block(number: u16, part: &[u8]) -> [u8; BLOCK_LEN]
+    requires { length part.now ≤ 504 }
+    ensures { result ≡ block_of number part.now }
 {
     let used = part.len();
-    put(block, 0, &number.to_le_bytes());
-    put(block, 2, &(used as u16).to_le_bytes());
-    put(block, 4, part);
-    clear(&mut block[4 + used..CHECKED_LEN]);
-    let sum = weigh(block);
-    put(block, CHECKED_LEN, &sum.to_le_bytes());
-}
-
-// Copies `bytes` to `target` from place `at` on.
-fn put(target: &mut [u8], at: usize, bytes: &[u8])
-    requires { at + length bytes.now ≤ length target.old }
-    ensures { target.new
-        ≡ take at target.old ++ (bytes.now ++ drop (at + length bytes.now) target.old) }
-{
-    target[at..at + bytes.len()].copy_from_slice(bytes);
-}
-
-fn clear(bytes: &mut [u8])
-    ensures { bytes.new ≡ replicate (length bytes.old) 0 }
-{
-    for byte in bytes.iter_mut() {
-        *byte = 0;
-    }
+    let mut block = [0; BLOCK_LEN];
+    block[..2].copy_from_slice(&number.to_le_bytes());
+    block[2..4].copy_from_slice(&(used as u16).to_le_bytes());
+    block[4..4 + used].copy_from_slice(part);
+    let sum = weigh(&block);
+    block[CHECKED_LEN..].copy_from_slice(&sum.to_le_bytes());
+    block
 }

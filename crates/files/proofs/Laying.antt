@@ -1,5 +1,6 @@
 -- Bytes laid down one after the other.
 use Rattle.std.proofs.Common.{◌≡◌, ℕ, ◌+◌, ◌*◌, ◌<◌, ◌≤◌, List, [], ◌++◌, length, get_or, take, drop, sym, ap, ◌∙◌, arith, length-append}
+use borrow.Rule.Slice.PartMut.{put_mid}
 use Rattle.std.proofs.lemmas.List.{append_assoc, take_at, take-append-drop, drop_at, drop-drop, take_more, flat_map_more, length-take-le}
 use Rattle.std.specs.List.{flat_map}
 use Rattle.files.specs.Laying.{laid}
@@ -23,6 +24,10 @@ laid_behind old xs ys at to h e =
     ∙ ap (λ (zs : List ℕ). front ++ (ys ++ zs)) behind
     ∙ append_assoc (take at old) xs (ys ++ drop (at + length (xs ++ ys)) old)
     ∙ ap (λ (zs : List ℕ). take at old ++ zs) (sym (append_assoc xs ys (drop (at + length (xs ++ ys)) old)))
+
+-- what was written over k bytes from place `a` on is laid down there
+pub put_laid : (a k : ℕ) (xs ys : List ℕ) → length ys ≡ k → put_mid a k xs ys ≡ laid a ys xs
+put_laid a k xs ys e = ap (λ (zs : List ℕ). take a xs ++ (ys ++ zs)) (drop-drop k a xs ∙ ap (λ (n : ℕ). drop (a + n) xs) (sym e))
 
 -- nothing laid down
 pub laid_none : (old : List ℕ) (at : ℕ) → old ≡ laid at [] old

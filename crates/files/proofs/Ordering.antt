@@ -56,11 +56,11 @@ module _ (file : List ℕ) where
       ∙ ap (record_then o j) g
 
 -- what a file with no fault tells
-first_none : {F : Type 0} (o p : Option F) → first o p ≡ None → (o ≡ None) × (p ≡ None)
+pub first_none : {F : Type 0} (o p : Option F) → first o p ≡ None → (o ≡ None) × (p ≡ None)
 first_none None p e = (refl, e)
 first_none (Some f) p e = (cc, cc)
 
-unless_none : {F : Type 0} (b : Bool) (f : F) → unless b f ≡ None → b ≡ true
+pub unless_none : {F : Type 0} (b : Bool) (f : F) → unless b f ≡ None → b ≡ true
 unless_none true f e = refl
 unless_none false f e = cc
 

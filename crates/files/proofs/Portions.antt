@@ -1,9 +1,12 @@
 -- Lists read part by part.
-use Rattle.std.proofs.Common.{◌≡◌, ℕ, zero, suc, ◌+◌, ◌-◌, ◌*◌, ◌<◌, ◌≤◌, min, List, [], ◌∷◌, ◌++◌, length, get_or, take, drop, set, sym, ap, ◌∙◌, ⊎_elim, add_comm, mul-suc, arith}
+use Rattle.std.proofs.Common.{◌≡◌, ℕ, zero, suc, ◌+◌, ◌-◌, ◌*◌, ◌<◌, ◌≤◌, min, Bool, true, false, cond, ltb, Some, None, refl, List, [], ◌∷◌, ◌++◌, length, get_or, take, drop, set, sym, ap, ◌∙◌, ⊎_elim, add_comm, mul-suc, arith}
 use Rattle.std.proofs.lemmas.List.{drop-drop, drop_more, set_at, append_assoc, take_all, take_at}
+use Rattle.std.proofs.lemmas.Nat.{mul-le}
 use Rattle.std.proofs.lemmas.Bool.{cases_lt}
+use Rattle.std.proofs.lemmas.Bool.Decides.{nat_tests}
 use Rattle.patterns.specs.declared.row.Row.{Row}
 use Rattle.patterns.specs.Automaton.{Automaton}
+use Rattle.patterns.specs.Questions.{known}
 use Rattle.files.specs.declared.heading.Heading.{Heading}
 use Rattle.files.specs.Fronts.{fronts_of}
 use Rattle.files.specs.Heading.{heading_of}
@@ -13,6 +16,33 @@ use Rattle.files.proofs.Fields.{length_each}
 -- the roots were passed over, so the rows come next
 pub rows_next : (n : ℕ) (p q r : List ℕ) → q ≡ drop 16 p → r ≡ drop (2 * n) q → r ≡ drop (16 + 2 * n) p
 rows_next n p q r e f = f ∙ ap (drop (2 * n)) e ∙ drop-drop (2 * n) 16 p
+
+-- one of n parts of k bytes fits behind i of them
+pub fits_more : (k i n m : ℕ) → i < n → k * n ≤ m → k ≤ m - k * i
+fits_more k i n m h e =
+    let s = mul-suc k i in
+    let l = mul-le k (suc i) k n (omega arith) (omega arith) in
+    omega arith
+
+-- i parts and one more
+pub parts_more : (k i : ℕ) → k * i + k ≡ k * (i + 1)
+parts_more k i = let e : suc i ≡ i + 1 = omega arith in sym (mul-suc k i) ∙ ap (λ (n : ℕ). k * n) e
+
+-- which way a part was read
+pub read_some : {X : Type 0} (b : Bool) (x y : X) → Some x ≡ cond b (Some y) None → (b ≡ true) × (x ≡ y)
+read_some true x y e = (refl, cc)
+read_some false x y e = (cc, cc)
+
+pub read_none : {X : Type 0} (b : Bool) (y : X) → None ≡ cond b (Some y) None → b ≡ false
+read_none true y e = cc
+read_none false y e = refl
+
+-- a row that is known has an operation of one byte
+pub known_small : (r : Row) → known r ≡ true → ltb r.operation 256 ≡ true
+known_small r e = grind (arith, nat_tests)
+
+pub large_unknown : (r : Row) → ltb r.operation 256 ≡ false → known r ≡ false
+large_unknown r e = grind (arith, nat_tests)
 
 module _ {X : Type 0} (k : ℕ) (f : List ℕ → X) where
   -- the first of the parts that are left

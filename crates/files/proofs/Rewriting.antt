@@ -1,5 +1,5 @@
 -- A file with no fault is the only one with its automaton.
-use Rattle.std.proofs.Common.{◌≡◌, ℕ, zero, suc, ◌+◌, ◌*◌, ◌/◌, ◌<◌, Bool, true, false, eqb, List, length, take, drop, is_some, Some, None, Option, refl, ap, ◌∙◌}
+use Rattle.std.proofs.Common.{◌≡◌, ℕ, zero, suc, ◌+◌, ◌*◌, ◌/◌, ◌<◌, true, false, eqb, List, length, take, drop, is_some, Some, None, Option, refl, ap, ◌∙◌}
 use Rattle.std.proofs.ByRecursion.{All-append, All-take, All-drop}
 use Rattle.std.proofs.lemmas.Bool.{eqb-true}
 use Rattle.std.specs.Option.{option_map}
@@ -11,8 +11,9 @@ use Rattle.blocks.proofs.Files.{rewritten}
 use Rattle.files.specs.declared.fault.RecordCause.TheVariants.{Heading, Length}
 use Rattle.files.specs.declared.fault.RecordFault.TheVariants as record-fault
 use Rattle.files.specs.Layout.{states_in, rows_in}
-use Rattle.files.specs.Questions.{max_file, first, unless, headed, record_fault, file_fault}
+use Rattle.files.specs.Questions.{max_file, unless, headed, record_fault, file_fault}
 use Rattle.files.specs.RoundTrips.{WritesBack}
+use Rattle.files.proofs.Ordering.{first_none, unless_none}
 use Rattle.files.proofs.RoundTrip.{encoded_decoded}
 
 bytes_fronts : (n : ℕ) (file : List ℕ) → Bytes file → Bytes (fronts n file)
@@ -26,14 +27,6 @@ bytes_fronts (suc n) file known =
 pub bytes_payload : (file : List ℕ) → Bytes file → Bytes (payload file)
 unfolding payload
 bytes_payload file known = bytes_fronts (length file / 512) file known
-
-first_none : {X : Type 0} (o p : Option X) → first o p ≡ None → (o ≡ None) × (p ≡ None)
-first_none None p e = (refl, e)
-first_none (Some f) p e = (cc, cc)
-
-unless_none : {X : Type 0} (b : Bool) (f : X) → unless b f ≡ None → b ≡ true
-unless_none true f e = refl
-unless_none false f e = cc
 
 none_below : (o : Option BlockFault) → option_map record-fault.Block o ≡ None → is_some o ≡ false
 none_below None e = refl

@@ -46,6 +46,5 @@ impl Heading {
 fn front<T>(table: &[T], count: usize) -> &[T]
     ensures { result.now ≡ take count table.now }
 {
-    let end = count.min(table.len());
-    &table[0..end]
+    table.get(..count).unwrap_or(table)
 }

@@ -1,6 +1,7 @@
 // Pattern files: the record and table layers over the block layer, reading, writing and matching.
 #![tactic(auto)]
 
+mod entry;
 pub mod fault;
 pub mod heading;
 pub mod line;

@@ -1,5 +1,5 @@
 // Reading a pattern file: every question is asked on the lent bytes, before a table is written.
-ghost use Rattle.std.specs.Prelude.{◌≡◌, ℕ, ◌+◌, ◌*◌, ◌<◌, ◌≤◌, true, false, cond, ◌&&◌, [], ◌++◌, length, take, drop, is_some, is_ok, Some, None, MatchOption, MatchResult, OnOk, nat_le, nat_lt};
+ghost use Rattle.std.specs.Prelude.{◌≡◌, ℕ, ◌+◌, ◌*◌, ◌<◌, ◌≤◌, true, cond, ◌&&◌, [], ◌++◌, length, drop, is_ok, Some, None, MatchResult, OnOk, nat_le};
 ghost use Rattle.blocks.specs.Layout.{payload};
 ghost use Rattle.blocks.specs.Reading.{rest};
 ghost use Rattle.patterns.specs.Questions.{judged, roots_fault, rows_fault, known};
@@ -8,6 +8,7 @@ ghost use Rattle.files.specs.Layout.{each, root_of, row_of, roots_in, table_in, 
 ghost use Rattle.files.specs.Questions.{file_fault, read_fault};
 ghost use Rattle.files.specs.RoundTrips.{WritesBack};
 
+use crate::entry::Entry;
 use crate::fault::{RecordCause, RecordFault, TableCause, TableFault};
 use crate::heading::{EDITION, HEADING_LEN, Heading, ROOT_LEN, ROW_LEN};
 use blocks::check::check_file;
@@ -89,8 +90,8 @@ fn fill_tables(file: &[u8], heading: Heading, roots: &mut [u16], rows: &mut [Row
         ≡ table_in heading.states heading.rows (payload file.now) ++ drop heading.rows rows.old }
 {
     let mut reader = tables_reader(file);
-    fill_roots(&mut reader, heading.states as usize, roots);
-    fill_rows(&mut reader, heading.rows as usize, rows);
+    fill(&mut reader, &mut roots[..heading.states as usize]);
+    fill(&mut reader, &mut rows[..heading.rows as usize]);
 }
 
 // The heading of a checked file's payload, unless the payload is too short for one, of another edition or has something
@@ -174,60 +175,31 @@ fn check_rows(reader: &mut Reader, count: usize, states: usize, signals: u8) -> 
         (λ _. rows_fault states signals [] (each 6 row_of count (rest reader.old)) ≡ None)
         (λ f. rows_fault states signals [] (each 6 row_of count (rest reader.old)) ≡ Some f) }
 {
+    // Stays: the library has no heap, and row i is asked with the answers of the rows before it, which stand in the
+    // same array that its own goes to.
     let mut frees = [false; MAX_ROWS];
     for i in 0..count {
-        let Some(row) = next_row(reader) else {
+        let Some(row) = Row::next(reader) else {
             return Err(Fault::Operation(i));
         };
-        let free = check_row(row, states, signals, &frees[0..i])?;
+        let free = check_row(row, states, signals, &frees[..i])?;
         frees[i] = free;
     }
     Ok(())
 }
 
-// Writes the next `count` roots into the front of the table.
-fn fill_roots(reader: &mut Reader, count: usize, roots: &mut [u16])
-    requires long { 2 * count ≤ length (rest reader.old) }
-    requires room { count ≤ length roots.old }
-    ensures items { roots.new ≡ each 2 root_of count (rest reader.old) ++ drop count roots.old }
-    ensures after { rest reader.new ≡ drop (2 * count) (rest reader.old) }
+// Writes the next entries into the table.
+fn fill<T: Entry<N>, const N: usize>(reader: &mut Reader, table: &mut [T])
+    requires long { N * length table.old ≤ length (rest reader.old) }
+    requires stand { (i : ℕ) → i < length table.old → T.stands (drop (N * i) (rest reader.old)) ≡ true }
+    ensures items { table.new ≡ each N T.front (length table.old) (rest reader.old) }
+    ensures after { rest reader.new ≡ drop (N * length table.old) (rest reader.old) }
 {
-    for q in 0..count {
-        let root = next_word(reader);
-        roots[q] = root;
-    }
-}
-
-// Writes the next `count` rows, whose zero bytes are zero, into the front of the table.
-fn fill_rows(reader: &mut Reader, count: usize, rows: &mut [Row])
-    requires long { 6 * count ≤ length (rest reader.old) }
-    requires room { count ≤ length rows.old }
-    requires known { (i : ℕ) → i < count → known (row_of (drop (6 * i) (rest reader.old))) ≡ true }
-    ensures { rows.new ≡ each 6 row_of count (rest reader.old) ++ drop count rows.old }
-{
-    for i in 0..count {
-        if let Some(row) = next_row(reader) {
-            rows[i] = row;
+    for slot in table.iter_mut() {
+        if let Some(entry) = T::next(reader) {
+            *slot = entry;
         }
     }
-}
-
-// The row in the next six bytes, unless its zero byte is not zero.
-fn next_row(reader: &mut Reader) -> Option<Row>
-    requires { 6 ≤ length (rest reader.old) }
-    ensures cases { MatchOption result (known (row_of (rest reader.old)) ≡ false) (λ row. row ≡ row_of (rest reader.old)) }
-    ensures test { is_some result ≡ nat_lt (row_of (rest reader.old)).operation 256 }
-    ensures after { rest reader.new ≡ drop 6 (rest reader.old) }
-{
-    let (operation, left, right) = reader.next_three_u16().unwrap();
-    if operation > 255 {
-        return None;
-    }
-    Some(Row {
-        operation: operation as u8,
-        left,
-        right,
-    })
 }
 
 // The number in the next two bytes.

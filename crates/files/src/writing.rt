@@ -1,17 +1,17 @@
 // Writing a pattern's file: its tables laid out as a payload, and that laid into blocks.
 ghost use Rattle.std.specs.Prelude.{◌≡◌, ◌+◌, ◌*◌, ◌≤◌, cond, ◌++◌, length, take, drop, is_ok, IfOk, Some, None, Ok, Err, MatchResult, nat_le};
 ghost use Rattle.std.specs.List.{flat_map};
-ghost use Rattle.blocks.specs.Bytes.{bytes_of};
 ghost use Rattle.patterns.specs.Automaton.{read};
 ghost use Rattle.patterns.specs.Formed.{Formed};
 ghost use Rattle.files.specs.declared.fault.RecordCause.TheVariants as record-cause;
 ghost use Rattle.files.specs.declared.fault.RecordFault.TheVariants as record-fault;
 ghost use Rattle.files.specs.declared.fault.TableFault.TheVariants as table-fault;
 ghost use Rattle.files.specs.Laying.{laid};
-ghost use Rattle.files.specs.Layout.{encoded, file_of, heading_bytes, row_bytes_of};
+ghost use Rattle.files.specs.Layout.{encoded, file_of, heading_bytes};
 ghost use Rattle.files.specs.Questions.{write_fault};
 ghost use Rattle.files.specs.RoundTrips.{ReadsBack};
 
+use crate::entry::Entry;
 use crate::fault::{RecordCause, RecordFault, TableFault};
 use crate::heading::{EDITION, HEADING_LEN, ROOT_LEN, ROW_LEN};
 use blocks::writer::write_file;
@@ -49,9 +49,10 @@ fn write_formed(parts: Parts, buffer: &mut [u8]) -> Result<usize, TableFault>
         buffer.old }
     ensures again { IfOk result (λ n. ReadsBack (take n buffer.new) (read parts.entry)) }
 {
+    // Stays: the library has no heap, so the payload stands in a fixed array with its length beside it.
     let mut payload = [0; MAX_PAYLOAD];
     let len = lay_out(parts, &mut payload);
-    match write_file(&payload[0..len], buffer) {
+    match write_file(&payload[..len], buffer) {
         Ok(file_len) => Ok(file_len),
         Err(_) => Err(TableFault::Record(RecordFault::Record(RecordCause::Buffer))),
     }
@@ -66,8 +67,8 @@ fn lay_out(parts: Parts, payload: &mut [u8]) -> usize
 {
     let rows_place = find_rows(parts.roots.len());
     lay_heading(parts, payload);
-    lay_roots(parts.roots, payload, HEADING_LEN);
-    lay_rows(parts.rows, payload, rows_place);
+    lay(parts.roots, payload, HEADING_LEN);
+    lay(parts.rows, payload, rows_place);
     rows_place + ROW_LEN * parts.rows.len()
 }
 
@@ -87,45 +88,19 @@ fn lay_heading(parts: Parts, payload: &mut [u8])
 {
     let states = parts.roots.len() as u8;
     let rows = parts.rows.len() as u16;
-    put(payload, 0, &[EDITION, states, parts.signals, parts.start]);
-    put(payload, 4, &rows.to_le_bytes());
-    put(payload, 6, &parts.finals.to_le_bytes());
-    put(payload, 14, &[0, 0]);
+    payload[..4].copy_from_slice(&[EDITION, states, parts.signals, parts.start]);
+    payload[4..6].copy_from_slice(&rows.to_le_bytes());
+    payload[6..14].copy_from_slice(&parts.finals.to_le_bytes());
+    payload[14..16].copy_from_slice(&[0, 0]);
 }
 
-// The roots one after the other, from place `at` on.
-fn lay_roots(roots: &[u16], payload: &mut [u8], at: usize)
-    requires { at + 2 * length roots.now ≤ length payload.old }
-    ensures { payload.new ≡ laid at (flat_map (bytes_of 2) roots.now) payload.old }
+// The entries one after the other, from place `at` on.
+fn lay<T: Entry<N>, const N: usize>(entries: &[T], payload: &mut [u8], at: usize)
+    requires { at + N * length entries.now ≤ length payload.old }
+    ensures { payload.new ≡ laid at (flat_map T.bytes entries.now) payload.old }
 {
-    for q in 0..roots.len() {
-        put(payload, at + ROOT_LEN * q, &roots[q].to_le_bytes());
+    for (i, entry) in entries.iter().enumerate() {
+        let place = at + N * i;
+        payload[place..place + N].copy_from_slice(&entry.to_bytes());
     }
-}
-
-// The rows one after the other, from place `at` on.
-fn lay_rows(rows: &[Row], payload: &mut [u8], at: usize)
-    requires { at + 6 * length rows.now ≤ length payload.old }
-    ensures { payload.new ≡ laid at (flat_map row_bytes_of rows.now) payload.old }
-{
-    for i in 0..rows.len() {
-        put(payload, at + ROW_LEN * i, &row_bytes(rows[i]));
-    }
-}
-
-// A row as it stands in the payload, with the zero byte behind its operation.
-fn row_bytes(row: Row) -> [u8; 6]
-    ensures { result ≡ row_bytes_of row }
-{
-    let left = row.left.to_le_bytes();
-    let right = row.right.to_le_bytes();
-    [row.operation, 0, left[0], left[1], right[0], right[1]]
-}
-
-// Copies `bytes` to `target` from place `at` on.
-fn put(target: &mut [u8], at: usize, bytes: &[u8])
-    requires { at + length bytes.now ≤ length target.old }
-    ensures { target.new ≡ laid at bytes.now target.old }
-{
-    target[at..at + bytes.len()].copy_from_slice(bytes);
 }

@@ -1,39 +1,37 @@
-use Rattle.std.proofs.Common.{◌≡◌, ℕ, ◌-◌, ◌*◌, List, ◌++◌, length, take, drop, sym, ap, ◌∙◌, arith}
-use Rattle.std.proofs.lemmas.List.{append-nil, take-append-drop}
-use Rattle.blocks.specs.Layout.{block_count, block_of, blocks_from, blocks_of}
-use Rattle.blocks.proofs.Cuts.{part_is_front}
-use Rattle.blocks.proofs.Laying.{laid_front, laid_behind}
+use Rattle.std.proofs.Common.{◌≡◌, ℕ, ◌+◌, ◌-◌, ◌*◌, min, length, sym, ap, ◌∙◌, subst, arith}
+use Rattle.std.specs.Iterator.Adapters.{enumerate_source, enumerate_count}
+use Rattle.std.specs.Slice.Iter.{chunks_rest, chunks_size}
+use borrow.Rule.Slice.PartMut.{put_mid}
+use Rattle.blocks.proofs.Laying.{Laid, laid_none, laid_more, laid_all}
 use Rattle.blocks.proofs.writer.write_blocks.Goals as goal
+
+pub loop-b-init : goal.loop-b-init
+loop-b-init c =
+    let i = c.into_iter-b-iterator.ensures.into_iter_gives in
+    let e = ap enumerate_source i ∙ c.enumerate-b-items.ensures.source in (
+      ap chunks_size e ∙ c.chunks.ensures.size,
+      laid_none c.args.payload.now c.args.buffer.now _ _ (ap chunks_rest e ∙ c.chunks.ensures.rest)
+          (ap enumerate_count i ∙ c.enumerate-b-items.ensures.count),
+    )
 
 pub loop-b-preserved : goal.loop-b-preserved
 loop-b-preserved c =
+    let e = c.in-Some.ensures.steps in
     let p = c.args.payload.now in
-    let b = c.loop-b.b in
-    let block = c.write_block.new.block in
-    let n = c.div_ceil-count.result in
-    let made : block ≡ block_of b (take 504 (drop (504 * b) p)) =
-    c.write_block.ensures ∙ ap (block_of b) (part_is_front p (504 * b) c.min-last.result 504 c.min-last.ensures) in
-    let whole : length block ≡ 512 = omega arith in (
-      laid_front p c.loop-b.buffer block b n c.loop-b-test.true (omega arith) made whole ∙ c.loop-b.invariant.0,
-      laid_behind p c.loop-b.buffer block b n c.loop-b-test.true (omega arith) made whole c.args.buffer.now c.loop-b.invariant.1,
-    )
+    let old = c.args.buffer.now in
+    let rest = chunks_rest (enumerate_source c.loop-b.b-iterator) in
+    let rest' = chunks_rest (enumerate_source c.next.new.self) in
+    let part = c.in-Some.part.now in
+    let b = c.in-Some.b in
+    let k : b + 1 ≡ enumerate_count c.next.new.self = ap (λ (i : ℕ). i + 1) e.1 ∙ sym e.2 in
+    let s = c.loop-b.invariant.0 in
+    let cut : length part ≡ min 504 (length rest) = e.0.1.1 ∙ ap (λ (i : ℕ). min i (length rest)) s in
+    let l = laid_more p old c.loop-b.buffer rest part rest' c.copy_from_slice.new.self b
+    (subst (Laid p old c.loop-b.buffer rest) (sym e.1) c.loop-b.invariant.1)
+    (let r = c.requires.room in omega arith) e.0.1.0 cut e.0.1.2 (c.copy_from_slice.ensures.after ∙ c.make_block.ensures) in
+    (e.0.0 ∙ s, subst (Laid p old (put_mid (512 * b) (512 * b + 512 - 512 * b) c.loop-b.buffer c.copy_from_slice.new.self) rest') k l)
 
 pub returns : goal.returns
-unfolding blocks_of
 returns c =
-    let p = c.args.payload.now in
-    let buffer = c.loop-b.buffer in
-    let b = c.loop-b.b in
-    let n = c.div_ceil-count.result in
-    let e : n ≡ block_count (length p) = omega arith in
-    let f : b ≡ n = omega arith in
-    let z : n - b ≡ 0 = omega arith in
-    let front : take (512 * b) buffer ≡ blocks_from n 0 p =
-    sym (append-nil (take (512 * b) buffer))
-    ∙ ap (λ (k : ℕ). take (512 * b) buffer ++ blocks_from k b (drop (504 * b) p)) (sym z)
-    ∙ c.loop-b.invariant.0 in
-    sym (take-append-drop (512 * b) buffer)
-    ∙ ap (λ (xs : List ℕ). xs ++ drop (512 * b) buffer) front
-    ∙ ap (λ (xs : List ℕ). blocks_from n 0 p ++ xs) c.loop-b.invariant.1
-    ∙ ap (λ (k : ℕ). blocks_from n 0 p ++ drop (512 * k) c.args.buffer.now) f
-    ∙ ap (λ (k : ℕ). blocks_from k 0 p ++ drop (512 * k) c.args.buffer.now) e
+    let e = c.in-None.ensures.steps in
+    laid_all c.args.payload.now c.args.buffer.now c.loop-b.buffer _ _ c.loop-b.invariant.1 e.0.1.0

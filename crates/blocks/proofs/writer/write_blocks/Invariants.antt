@@ -1,7 +1,10 @@
-use Rattle.std.proofs.Common.{◌≡◌, ◌-◌, ◌*◌, ◌++◌, take, drop}
-use Rattle.blocks.specs.Layout.{blocks_from}
+use Rattle.std.proofs.Common.{◌≡◌}
+use Rattle.std.specs.Iterator.Adapters.{enumerate_source, enumerate_count}
+use Rattle.std.specs.Slice.Iter.{chunks_rest, chunks_size}
+use Rattle.blocks.proofs.Laying.{Laid}
 use Rattle.blocks.proofs.writer.write_blocks.Given as goal
 
 abbrev pub invariant-loop-b : goal.invariant-loop-b
-invariant-loop-b l = (take (512 * l.b) l.buffer ++ blocks_from (l.count - l.b) l.b (drop (504 * l.b) l.payload) ≡ blocks_from l.count 0 l.payload)
-    × (drop (512 * l.b) l.buffer ≡ drop (512 * l.b) l.initial.buffer)
+invariant-loop-b l =
+    let chunks = enumerate_source l.b-iterator in
+    (chunks_size chunks ≡ 504) × Laid l.payload l.initial.buffer l.buffer (chunks_rest chunks) (enumerate_count l.b-iterator)

@@ -1,9 +1,10 @@
-use Rattle.std.proofs.Common.{◌≡◌, ℕ, ◌/◌, ◌%◌, List, [], ◌∷◌, ◌++◌, length, refl, ap, ◌∙◌, arith, length-append}
+use Rattle.std.proofs.Common.{◌≡◌, ℕ, ◌/◌, ◌%◌, List, [], ◌∷◌, ◌++◌, length, drop, refl, ap, ◌∙◌, arith, length-append}
+use borrow.Rule.Slice.PartMut.{put_mid}
 use native.Mathlib.Nat.{div-div-eq-div-mul}
 use Rattle.blocks.specs.Bytes.{bytes_of}
 use Rattle.patterns.specs.Automaton.{read}
 use Rattle.files.specs.Laying.{laid}
-use Rattle.files.proofs.Laying.{laid_behind}
+use Rattle.files.proofs.Laying.{put_laid, laid_behind}
 use Rattle.files.proofs.writing.lay_heading.Goals as goal
 
 eight_bytes : (x : ℕ)
@@ -48,10 +49,15 @@ returns c =
     ap (λ (x : ℕ). 1 ∷ x ∷ parts.signals ∷ parts.start ∷ []) p
     ∙ ap (λ (x : ℕ). 1 ∷ small % 256 ∷ x ∷ parts.start ∷ []) q
     ∙ ap (λ (x : ℕ). 1 ∷ small % 256 ∷ parts.signals % 256 ∷ x ∷ []) r in
-    all_laid old c.put.new.target c.put-2.new.target c.put-3.new.target c.put-4.new.target
+    let one = c.copy_from_slice.new.self ++ drop 4 old in
+    let two = put_mid 4 2 one c.copy_from_slice-2.new.self in
+    let three = put_mid 6 8 two c.copy_from_slice-3.new.self in
+    all_laid old one two three (put_mid 14 2 three c.copy_from_slice-4.new.self)
     (bytes_of 1 1 ++ (bytes_of 1 small ++ (bytes_of 1 parts.signals ++ bytes_of 1 parts.start)))
     (bytes_of 2 (length parts.rows.now)) (bytes_of 8 parts.finals) (bytes_of 2 0)
-    (c.put.ensures ∙ ap (λ (xs : List ℕ). laid 0 xs old) first)
-    (c.put-2.ensures ∙ ap (λ (xs : List ℕ). laid 4 xs c.put.new.target) c.to_le_bytes.ensures)
-    (c.put-3.ensures ∙ ap (λ (xs : List ℕ). laid 6 xs c.put-2.new.target) (c.to_le_bytes-2.ensures ∙ eight_bytes parts.finals))
-    c.put-4.ensures refl refl refl
+    (ap (λ (xs : List ℕ). xs ++ drop 4 old) (c.copy_from_slice.ensures.after ∙ first))
+    (ap (put_mid 4 2 one) (c.copy_from_slice-2.ensures.after ∙ c.to_le_bytes.ensures) ∙ put_laid 4 2 one (bytes_of 2 (length parts.rows.now)) refl)
+    (ap (put_mid 6 8 two) (c.copy_from_slice-3.ensures.after ∙ c.to_le_bytes-2.ensures ∙ eight_bytes parts.finals)
+    ∙ put_laid 6 8 two (bytes_of 8 parts.finals) refl)
+    (ap (put_mid 14 2 three) c.copy_from_slice-4.ensures.after ∙ put_laid 14 2 three (bytes_of 2 0) refl)
+    refl refl refl

@@ -27,9 +27,9 @@ returns c =
     let to : place ≡ 0 + length (heading ++ roots) = omega arith in
     record {
       value = omega arith;
-      after = c.lay_rows.ensures
+      after = c.lay-2.ensures
           ∙ ap (laid place rows)
-          (c.lay_roots.ensures ∙ ap (laid 16 roots) c.lay_heading.ensures ∙ laid_behind old heading roots 0 16 (omega arith) refl)
+          (c.lay.ensures ∙ ap (laid 16 roots) c.lay_heading.ensures ∙ laid_behind old heading roots 0 16 (omega arith) refl)
           ∙ laid_behind old (heading ++ roots) rows 0 place (omega arith) to
           ∙ ap (λ (xs : List ℕ). laid 0 xs old) (append_assoc heading roots rows);
     }

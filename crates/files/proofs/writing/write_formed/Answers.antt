@@ -1,4 +1,4 @@
-use Rattle.std.proofs.Common.{◌≡◌, ℕ, ◌-◌, List, length, take, ap, ◌∙◌, arith}
+use Rattle.std.proofs.Common.{◌≡◌, ℕ, List, length, take, ap, ◌∙◌, arith, length-take}
 use Rattle.patterns.specs.Automaton.{read}
 use Rattle.files.specs.Laying.{laid}
 use Rattle.files.specs.Layout.{encoded}
@@ -6,14 +6,15 @@ use Rattle.files.proofs.Fitting.{length_range, refused_value, written_value, wri
 use Rattle.files.proofs.Laying.{take_laid}
 use Rattle.files.proofs.writing.write_formed.Goals as goal
 
--- `&payload[0..n]` as the checker reads it
-part : (payload old bytes : List ℕ) (n : ℕ) → n ≡ length bytes → payload ≡ laid 0 bytes old → take (n - 0) payload ≡ bytes
-part payload old bytes n e l =
-    let k : n - 0 ≡ length bytes = omega arith in
-    ap (take (n - 0)) l ∙ take_laid bytes old (n - 0) k
+-- the payload is the front
+part : (payload old bytes : List ℕ) (n : ℕ) → n ≡ length bytes → payload ≡ laid 0 bytes old → take n payload ≡ bytes
+part payload old bytes n e l = ap (take n) l ∙ take_laid bytes old n e
 
 pub slice_bounds-write_file-end : goal.slice_bounds-write_file-end
-slice_bounds-write_file-end c = let r = length_range (read c.args.parts) c.requires in omega arith
+slice_bounds-write_file-end c =
+    let r = length_range (read c.args.parts) c.requires in
+    let l = length-take c.lay_out-len.result c.lay_out-len.new.payload in
+    omega arith
 
 pub returns-in-Ok : goal.returns-in-Ok
 returns-in-Ok c =
