@@ -1,5 +1,5 @@
 // Questions asked of the rows of a trie.
-ghost use Rattle.std.specs.Prelude.{◌≡◌, ◌+◌, ◌-◌, ◌<◌, ◌≤◌, true, [], length, drop, Decides, slice_index, slice_set};
+ghost use Rattle.std.specs.Prelude.{◌≡◌, ◌+◌, ◌<◌, ◌≤◌, true, [], length, Decides, slice_index, slice_set};
 ghost use Rattle.keys.specs.Listed.{numbers};
 ghost use Rattle.keys.specs.Numbers.{without};
 ghost use Rattle.tries.specs.Rows.{paths, run, linked, shaped, reached, matched};
@@ -15,15 +15,14 @@ pub(crate) fn reaches(rows: &[Row], key: &Key) -> bool
     requires shaped { shaped 0 rows.now ≡ true }
     ensures { result ≡ reached (numbers key.now) (paths [] rows.now) }
 {
-    let mut i = 0;
-    while i < rows.len() {
-        let next = rows[i];
+    let mut ahead = rows;
+    while let Some((next, rest)) = ahead.split_first() {
         if !key.has(next.number) {
-            i += next.skip;
+            ahead = next.past(rest);
         } else if next.ends {
             return true;
         } else {
-            i += 1;
+            ahead = rest;
         }
     }
     false
@@ -36,15 +35,14 @@ pub(crate) fn matches(rows: &[Row], key: Key) -> bool
     ensures { result ≡ matched (numbers key) (paths [] rows.now) }
 {
     let mut left = [key; MAX_NUMBERS];
-    let mut i = 0;
-    while i < rows.len() {
-        let row = rows[i];
+    let mut ahead = rows;
+    while let Some((row, rest)) = ahead.split_first() {
         if !key.has(row.number) {
-            i += row.skip;
-        } else if follow(&mut left, key, row).is_empty() && row.ends {
+            ahead = row.past(rest);
+        } else if follow(&mut left, key, *row).is_empty() && row.ends {
             return true;
         } else {
-            i += 1;
+            ahead = rest;
         }
     }
     false
@@ -64,21 +62,19 @@ pub(crate) fn follow(left: &mut [Key; MAX_NUMBERS], key: Key, row: Row) -> Key
     rest
 }
 
-// How many rows, from a place on, lie deeper.
-pub(crate) fn measure(rows: &[Row], from: usize, depth: u8) -> usize
-    requires place { from ≤ length rows.now }
-    requires linked { linked (drop from rows.now) ≡ true }
-    ensures { result ≡ run depth (drop from rows.now) }
+// How many rows, from the front on, lie deeper.
+pub(crate) fn measure(rows: &[Row], depth: u8) -> usize
+    requires { linked rows.now ≡ true }
+    ensures { result ≡ run depth rows.now }
 {
-    let mut i = from;
-    while i < rows.len() {
-        let row = rows[i];
+    let mut ahead = rows;
+    while let Some((row, rest)) = ahead.split_first() {
         if row.depth <= depth {
-            return i - from;
+            break;
         }
-        i += row.skip;
+        ahead = row.past(rest);
     }
-    i - from
+    rows.len() - ahead.len()
 }
 
 // A place among the rows, and how many numbers are shared with the rows before it.
@@ -97,20 +93,22 @@ pub(crate) fn place(rows: &[Row], word: &[u16]) -> Spot
     ensures { Spotted word.now rows.now result.at result.depth }
 {
     let mut depth = 0;
-    let mut i = 0;
-    while i < rows.len() {
-        let row = rows[i];
+    let mut ahead = rows;
+    while let Some((row, rest)) = ahead.split_first() {
         if (row.depth as usize) < depth {
-            return Spot { at: i, depth };
+            break;
         }
-        if shares(row, word, depth) {
+        if shares(*row, word, depth) {
             depth += 1;
-            i += 1;
+            ahead = rest;
         } else {
-            i += row.skip;
+            ahead = row.past(rest);
         }
     }
-    Spot { at: i, depth }
+    Spot {
+        at: rows.len() - ahead.len(),
+        depth,
+    }
 }
 
 // Whether the row holds the word's number at the depth, and that is not its last.

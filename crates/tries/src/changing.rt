@@ -17,12 +17,10 @@ pub(crate) fn release(rows: &mut [Row], key: Key) -> usize
 {
     let mut left = [key; MAX_NUMBERS];
     let mut count = 0;
-    for i in 0..rows.len() {
-        let row = rows[i];
-        let rest = follow(&mut left, key, row);
-        let ends = keeps(row, rest);
-        rows[i] = Row { ends, ..row };
-        if ends {
+    for row in rows.iter_mut() {
+        let rest = follow(&mut left, key, *row);
+        row.ends = keeps(*row, rest);
+        if row.ends {
             count += 1;
         }
     }
@@ -49,9 +47,7 @@ pub(crate) fn settle_rows(rows: &mut [Row], from: usize, upto: usize, start: usi
     ensures place { result ≤ start }
 {
     let mut begin = start;
-    let mut i = upto;
-    while i > from {
-        i -= 1;
+    for i in (from..upto).rev() {
         let row = rows[i];
         begin = settle(rows, begin, row);
     }
@@ -72,9 +68,7 @@ pub(crate) fn settle_word(rows: &mut [Row], word: &[u16], depth: usize, start: u
     ensures place { result ≤ start }
 {
     let mut begin = start;
-    let mut i = word.len();
-    while i > depth {
-        i -= 1;
+    for i in (depth..word.len()).rev() {
         begin = settle(rows, begin, sprout(word, i));
     }
     begin
@@ -91,7 +85,7 @@ fn settle(rows: &mut [Row], start: usize, row: Row) -> usize
     ensures near { start ≤ result + 1 }
     ensures place { result ≤ start }
 {
-    let below = measure(rows, start, row.depth);
+    let below = measure(&rows[start..], row.depth);
     if !row.ends && below == 0 {
         return start;
     }

@@ -31,9 +31,9 @@ pub(crate) fn exchange(rows: &mut [Row], used: usize, key: Key) -> Extent
     ensures bearing { bearing (take result.used rows.new) ≡ true }
 {
     let left = let_go(rows, used, key);
-    let mut word = [0; MAX_NUMBERS];
-    let count = key.write(&mut word);
-    let used = put_in(rows, used, &word[0..count]);
+    let mut numbers = [0; MAX_NUMBERS];
+    let word = key.write(&mut numbers);
+    let used = put_in(rows, used, word);
     Extent {
         used,
         size: left + 1,

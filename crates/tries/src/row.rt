@@ -1,4 +1,6 @@
 // A row of a trie.
+ghost use Rattle.std.specs.Prelude.{◌≡◌, suc, drop};
+ghost use Rattle.tries.specs.Rows.{run};
 
 // One number of the keys that go through the row. The rows of a trie stand in preorder: behind each row stand the rows
 // beneath it.
@@ -11,4 +13,14 @@ pub struct Row {
     pub ends: bool,
     // How many rows the row and those beneath it are.
     pub skip: usize,
+}
+
+impl Row {
+    // The rows behind those beneath the row, where `rest` is all that stands behind it.
+    pub(crate) fn past<'a>(&self, rest: &'a [Row]) -> &'a [Row]
+        requires { self.now.skip ≡ suc (run self.now.depth rest.now) }
+        ensures { result.now ≡ drop (run self.now.depth rest.now) rest.now }
+    {
+        &rest[self.skip - 1..]
+    }
 }

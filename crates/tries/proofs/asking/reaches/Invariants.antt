@@ -1,11 +1,11 @@
-use Rattle.std.proofs.Common.{ℕ, ◌-◌, List, length}
+use Rattle.std.proofs.Common.{ℕ, List, length}
 use Rattle.keys.specs.Numbers.{contained}
 use Rattle.keys.specs.Listed.{numbers}
 use Rattle.tries.proofs.Walks.{Walk}
 use Rattle.tries.proofs.asking.reaches.Given as goal
 
-abbrev pub invariant-loop-i : goal.invariant-loop-i
-invariant-loop-i l = (p : List ℕ) × Walk (λ w. contained w (numbers l.key)) (numbers l.key) l.rows l.i p
+abbrev pub invariant-loop-next : goal.invariant-loop-next
+invariant-loop-next l = (p : List ℕ) × Walk (λ w. contained w (numbers l.key)) (numbers l.key) l.rows l.ahead p
 
-abbrev pub decreases-loop-i : goal.decreases-loop-i
-decreases-loop-i l = length l.rows - l.i
+abbrev pub decreases-loop-next : goal.decreases-loop-next
+decreases-loop-next l = length l.ahead

@@ -1,4 +1,4 @@
-use Rattle.std.proofs.Common.{◌≡◌, ◌+◌, ◌-◌, [], ◌∷◌, ◌++◌, length, take, sym, ap, ◌∙◌, subst, arith, rules}
+use Rattle.std.proofs.Common.{◌+◌, [], ◌∷◌, ◌++◌, length, take, sym, ap, ◌∙◌, subst, arith, rules}
 use Rattle.std.proofs.lemmas.List.{length-take-le, length-append}
 use Rattle.stores.specs.Holding.{Reordered}
 use Rattle.stores.proofs.Reorderings.{reordered_length}
@@ -16,15 +16,13 @@ put_in-used-requires c =
     let v = numbers c.args.key in
     let rs = take used rows in
     let go = c.let_go-left.ensures in
-    let w = c.write-count.ensures in
-    let n : c.write-count.result - 0 ≡ c.write-count.result = omega arith in
-    let word = ap (λ j. take j c.write-count.new.out) n ∙ w.items in
+    let w = c.write-word.ensures in
     record {
       room = omega (arith, c.requires.room, c.let_go-left.auto.rows);
       linked = ap linked go.rows ∙ links_released v [] rs c.requires.linked;
       shaped = ap (shaped 0) go.rows ∙ shaped_released v 0 [] rs ∙ c.requires.shaped;
-      some = omega (arith, ap length word, c.requires.some);
-      short = omega (arith, ap length word, w.len, w.short);
+      some = omega (arith, ap length w.items, c.requires.some);
+      short = w.short;
     }
 
 pub overflow_add-result : goal.overflow_add-result
@@ -47,13 +45,11 @@ returns c =
     let v = numbers c.args.key in
     let rs = take used rows in
     let go = c.let_go-left.ensures in
-    let w = c.write-count.ensures in
-    let n : c.write-count.result - 0 ≡ c.write-count.result = omega arith in
-    let word = ap (λ j. take j c.write-count.new.out) n ∙ w.items in
+    let w = c.write-word.ensures in
     let ss = take c.put_in-used.result c.put_in-used.new.rows in
     let old = released v [] rs in
-    let p : PutIn v old ss = subst (λ z. PutIn v z ss) go.rows (subst (λ z. PutIn z (take used c.let_go-left.new.rows) ss) word c.put_in-used.ensures.items) in
-    let done = put_word v old ss (shaped_released v 0 [] rs ∙ c.requires.shaped) (omega (arith, w.len, w.short)) p in
+    let p : PutIn v old ss = subst (λ z. PutIn v z ss) go.rows (subst (λ z. PutIn z (take used c.let_go-left.new.rows) ss) w.items c.put_in-used.ensures.items) in
+    let done = put_word v old ss (shaped_released v 0 [] rs ∙ c.requires.shaped) (omega (arith, ap length w.items, w.short)) p in
     let left = paths_released v [] rs in
     record {
       within = omega (arith, c.put_in-used.ensures.within, c.let_go-left.auto.rows);

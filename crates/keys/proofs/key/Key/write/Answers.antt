@@ -1,15 +1,11 @@
-use Rattle.std.proofs.Common.{◌≡◌, ℕ, ◌+◌, ◌<◌, ◌≤◌, true, false, [], ◌∷◌, ◌++◌, length, take, Some, None, Option, sym, ap, ◌∙◌, add-one, arith}
-use Rattle.std.proofs.lemmas.List.{append-nil, append_assoc, length-append, take_more_set}
+use Rattle.std.proofs.Common.{◌≡◌, ℕ, ◌+◌, ◌<◌, true, false, [], ◌∷◌, ◌++◌, length, take, Option, sym, ap, ◌∙◌, add-one, arith}
+use Rattle.std.proofs.lemmas.List.{append_assoc, length-append, take_more_set}
 use Rattle.sets.specs.Sets.{has}
 use Rattle.keys.specs.Numbers.{missing}
 use Rattle.keys.specs.Listed.{leading}
 use Rattle.keys.proofs.Numbers.{missing_none, missing_more, missing_skip}
 use Rattle.keys.proofs.key.Key.write.Goals as goal
-use Rattle.keys.proofs.key.Key.write.Goals.{then-not-holds, else-not-holds}
-
-one_leads : (o : Option ℕ) → length (leading o) ≤ 1
-one_leads None = omega arith
-one_leads (Some n) = omega arith
+use Rattle.keys.proofs.key.Key.write.Goals.{in-Some, in_default, then-not-holds, else-not-holds}
 
 module _ (o : Option ℕ) (c q : ℕ) where
   -- one state more is asked: it is written last, or nothing is
@@ -21,11 +17,18 @@ module _ (o : Option ℕ) (c q : ℕ) where
 
 pub loop-q-init : goal.loop-q-init
 loop-q-init c =
-    let o = c.args.self.now.lead in
-    let e : leading o ++ missing c.args.self.now.set 0 ≡ leading o = ap (λ v. leading o ++ v) (missing_none c.args.self.now.set) ∙ append-nil (leading o) in
-    let w = c.write_lead-count.ensures in
-    let l = one_leads o in
-    (omega (arith, w.len), w.items ∙ sym e, w.len ∙ ap length (sym e))
+    let k = c.args.self.now in
+    elim c.match-self.branch [
+      | in-Some w ↦
+          let all : leading k.lead ++ missing k.set 0 ≡ w.in-Some.first ∷ [] = ap (λ o. leading o ++ missing k.set 0) w.in-Some.is ∙ ap (λ v. w.in-Some.first ∷ v) (missing_none k.set) in (
+            omega (arith, w.count-is),
+            ap (λ n. take n c.match-self.out) w.count-is ∙ ap (take 1) w.out-is ∙ take_more_set c.args.out.now 0 w.in-Some.first (omega (arith, c.told-out)) ∙ sym all,
+            w.count-is ∙ sym (ap length all),
+          )
+      | in_default w ↦
+          let all : leading k.lead ++ missing k.set 0 ≡ [] = ap (λ o. leading o ++ missing k.set 0) w.in_default.is ∙ missing_none k.set in
+          (omega (arith, w.count-is), ap (λ n. take n c.match-self.out) w.count-is ∙ sym all, w.count-is ∙ sym (ap length all))
+    ]
 
 pub loop-q-preserved : goal.loop-q-preserved
 loop-q-preserved c =
