@@ -56,6 +56,8 @@ pub(crate) fn settle_rows(rows: &mut [Row], from: usize, upto: usize, start: usi
 
 // Puts the rows that hold the numbers of the word from a depth on before those from `start` on. The answer is where they
 // begin then.
+// Stays: one function for this and settle_rows would take a closure from the rows and a place to a row, and be longer
+// than the two loops.
 pub(crate) fn settle_word(rows: &mut [Row], word: &[u16], depth: usize, start: usize) -> usize
     requires deep { depth ≤ length word.now }
     requires short { length word.now ≤ 65 }

@@ -3,13 +3,14 @@ use Rattle.std.proofs.lemmas.Bool.{both_ways}
 use Rattle.keys.specs.Numbers.{contained}
 use Rattle.keys.specs.Listed.{numbers}
 use Rattle.tries.specs.Rows.{way}
+use Rattle.tries.specs.Forests.{in_use}
 use Rattle.tries.proofs.Walks.{walk_skip, walk_next, walk_here, contained_way}
-use Rattle.tries.proofs.asking.reaches.Goals as goal
+use Rattle.tries.proofs.forest.Forest.reaches.Goals as goal
 
 pub loop-next-preserved-then-not-has : goal.loop-next-preserved-then-not-has
 loop-next-preserved-then-not-has c =
     let v = numbers c.args.key.now in
-    let rows = c.args.rows.now in
+    let rows = in_use c.args.self.now in
     let row = c.in-Some.next.now in
     let rest = c.in-Some.rest.now in
     let w = c.loop-next.invariant in
@@ -18,7 +19,7 @@ loop-next-preserved-then-not-has c =
 pub returns-then-next : goal.returns-then-next
 returns-then-next c =
     let v = numbers c.args.key.now in
-    let rows = c.args.rows.now in
+    let rows = in_use c.args.self.now in
     let row = c.in-Some.next.now in
     let rest = c.in-Some.rest.now in
     let w = c.loop-next.invariant in
@@ -28,7 +29,7 @@ returns-then-next c =
 pub loop-next-preserved : goal.loop-next-preserved
 loop-next-preserved c =
     let v = numbers c.args.key.now in
-    let rows = c.args.rows.now in
+    let rows = in_use c.args.self.now in
     let row = c.in-Some.next.now in
     let rest = c.in-Some.rest.now in
     let w = c.loop-next.invariant in (

@@ -4,10 +4,11 @@ use Rattle.keys.specs.Numbers.{contained, none}
 use Rattle.keys.specs.Listed.{numbers}
 use Rattle.keys.proofs.Numbers.{rest_none}
 use Rattle.tries.specs.Rows.{way}
+use Rattle.tries.specs.Forests.{in_use}
 use Rattle.tries.proofs.Walks.{walk_skip, walk_next, walk_here, walk_deep, contained_way}
 use Rattle.tries.proofs.Trails.{Trail, trail_left, trail_more}
-use Rattle.tries.proofs.asking.matches.Goals as goal
-use Rattle.tries.proofs.asking.matches.Goals.{else-is_empty-via-then-is_empty+else-row, else-is_empty-via-else-is_empty}
+use Rattle.tries.proofs.forest.Forest.matches.Goals as goal
+use Rattle.tries.proofs.forest.Forest.matches.Goals.{else-is_empty-via-then-is_empty+else-row, else-is_empty-via-else-is_empty}
 
 abbrev same : List ℕ → List ℕ → Bool
 same v w = contained w v && contained v w
@@ -18,7 +19,7 @@ only v w h = (and_parts (contained w v) (contained v w) h).0
 pub loop-row-preserved-then-not-has : goal.loop-row-preserved-then-not-has
 loop-row-preserved-then-not-has c =
     let v = numbers c.args.key in
-    let rows = c.args.rows.now in
+    let rows = in_use c.args.self.now in
     let row = c.in-Some.row.now in
     let rest = c.in-Some.rest.now in
     let w = c.loop-row.invariant in
@@ -27,7 +28,7 @@ loop-row-preserved-then-not-has c =
 pub follow-requires : goal.follow-requires
 follow-requires c =
     let v = numbers c.args.key in
-    let rows = c.args.rows.now in
+    let rows = in_use c.args.self.now in
     let row = c.in-Some.row.now in
     let rest = c.in-Some.rest.now in
     let w = c.loop-row.invariant in
@@ -36,7 +37,7 @@ follow-requires c =
 pub returns-then-row : goal.returns-then-row
 returns-then-row c =
     let v = numbers c.args.key in
-    let rows = c.args.rows.now in
+    let rows = in_use c.args.self.now in
     let row = c.in-Some.row.now in
     let rest = c.in-Some.rest.now in
     let w = c.loop-row.invariant in
@@ -51,7 +52,7 @@ returns-then-row c =
 pub loop-row-preserved : goal.loop-row-preserved
 loop-row-preserved c =
     let v = numbers c.args.key in
-    let rows = c.args.rows.now in
+    let rows = in_use c.args.self.now in
     let row = c.in-Some.row.now in
     let rest = c.in-Some.rest.now in
     let w = c.loop-row.invariant in
