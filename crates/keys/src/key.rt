@@ -1,5 +1,6 @@
 // A key as a value.
-ghost use Rattle.std.specs.Prelude.{◌≡◌, ◌≤◌, length};
+ghost use Rattle.std.specs.Prelude.{◌≡◌, ◌≤◌, not, length};
+ghost use Rattle.sets.specs.Sets.{has};
 ghost use Rattle.keys.specs.Numbers.{among, without, none, missing};
 ghost use Rattle.keys.specs.Listed.{numbers};
 
@@ -52,8 +53,9 @@ impl Key {
             out[0] = first;
             count = 1;
         }
+        // Stays: a filter over the range would leave the same lines in the loop, and take away the bound on the count.
         for q in 0..MAX_STATES {
-            if !holds(self.set, q) {
+            if lacks(self.set, q) {
                 out[count] = q as u16;
                 count += 1;
             }
@@ -66,5 +68,12 @@ impl Key {
 fn is_missing(set: States, number: u16) -> bool
     ensures { result ≡ among number (missing set 64) }
 {
-    number < 64 && !holds(set, number as usize)
+    number < 64 && lacks(set, number as usize)
+}
+
+// Whether the set has not the state.
+fn lacks(set: States, q: usize) -> bool
+    ensures { result ≡ not (has set q) }
+{
+    !holds(set, q)
 }

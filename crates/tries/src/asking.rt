@@ -33,7 +33,7 @@ impl Forest {
     {
         let mut ahead = self.in_use();
         while let Some((next, rest)) = ahead.split_first() {
-            if !key.has(next.number) {
+            if next.leads_away(key) {
                 ahead = next.past(rest);
             } else if next.ends {
                 return true;
@@ -51,7 +51,7 @@ impl Forest {
         let mut left = [key; MAX_NUMBERS];
         let mut ahead = self.in_use();
         while let Some((row, rest)) = ahead.split_first() {
-            if !key.has(row.number) {
+            if row.leads_away(&key) {
                 ahead = row.past(rest);
             } else if follow(&mut left, key, *row).is_empty() && row.ends {
                 return true;

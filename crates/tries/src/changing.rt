@@ -91,10 +91,7 @@ fn settle(rows: &mut [Row], start: usize, row: Row) -> usize
     if !row.ends && below == 0 {
         return start;
     }
-    rows[start - 1] = Row {
-        skip: 1 + below,
-        ..row
-    };
+    rows[start - 1] = row.over(below);
     start - 1
 }
 

@@ -14,8 +14,8 @@ all_behind start rows = take_all (length rows - start) (drop start rows) (omega 
 pub measure-below-requires : goal.measure-below-requires
 measure-below-requires c = ap linked (all_behind c.args.start c.args.rows.now) ∙ c.requires.linked
 
-pub overflow_add-rows : goal.overflow_add-rows
-overflow_add-rows c =
+pub over-requires : goal.over-requires
+over-requires c =
     let h = run_le c.args.row.depth (drop c.args.start c.args.rows.now) in
     let k = length-drop c.args.start c.args.rows.now in
     let e = c.measure-below.ensures ∙ ap (run c.args.row.depth) (all_behind c.args.start c.args.rows.now) in
@@ -37,7 +37,7 @@ returns c =
       | else-not-row-via-else-not-row x ↦ or_left row.ends (ltb 0 below) (not-false row.ends x.if-not-row.false)
     ] in
     record {
-      items = written rows start row p w bears c.measure-below.result m;
+      items = written rows start row p w bears c.measure-below.result m c.over.result c.over.ensures;
       same = take-set rows (start - 1) _;
       near = omega arith;
       place = omega arith;

@@ -1,6 +1,6 @@
 use Rattle.std.proofs.Common.{◌≡◌, ℕ, Bool, true, false, ◌&&◌, List, sym, ap, ◌∙◌, subst}
-use Rattle.std.proofs.lemmas.Bool.{both_ways, and_parts, and_from, and_right}
-use Rattle.keys.specs.Numbers.{contained, none}
+use Rattle.std.proofs.lemmas.Bool.{both_ways, not-true, not-false, and_parts, and_from, and_right}
+use Rattle.keys.specs.Numbers.{among, contained, none}
 use Rattle.keys.specs.Listed.{numbers}
 use Rattle.keys.proofs.Numbers.{rest_none}
 use Rattle.tries.specs.Rows.{way}
@@ -16,14 +16,14 @@ same v w = contained w v && contained v w
 only : (v w : List ℕ) → same v w ≡ true → contained w v ≡ true
 only v w h = (and_parts (contained w v) (contained v w) h).0
 
-pub loop-row-preserved-then-not-has : goal.loop-row-preserved-then-not-has
-loop-row-preserved-then-not-has c =
+pub loop-row-preserved-then-leads_away : goal.loop-row-preserved-then-leads_away
+loop-row-preserved-then-leads_away c =
     let v = numbers c.args.key in
     let rows = in_use c.args.self.now in
     let row = c.in-Some.row.now in
     let rest = c.in-Some.rest.now in
     let w = c.loop-row.invariant in
-    (w.0, walk_skip (same v) v (only v) rows c.loop-row.ahead.now w.0 row rest w.1 c.in-Some.ensures.cases.0 (sym c.if-not-has.ensures) c.past-ahead.result.now c.past-ahead.ensures, w.2)
+    (w.0, walk_skip (same v) v (only v) rows c.loop-row.ahead.now w.0 row rest w.1 c.in-Some.ensures.cases.0 (not-true (among row.number v) (sym c.if-leads_away.ensures)) c.past-ahead.result.now c.past-ahead.ensures, w.2)
 
 pub follow-requires : goal.follow-requires
 follow-requires c =
@@ -46,7 +46,7 @@ returns-then-row c =
     let left = trail_left c.args.key c.loop-row.left w.0 w.2 row c.follow.result deep.0 deep.1 c.follow.ensures.value in
     sym (walk_here (same v) v (only v) rows c.loop-row.ahead.now w.0 row rest w.1 e c.if-row.true
     (and_from (contained (way w.0 row) v) (contained v (way w.0 row))
-    (contained_way w.0 v row w.1.own (sym c.has.ensures ∙ c.if-not-has.false))
+    (contained_way w.0 v row w.1.own (not-false (among row.number v) (sym c.leads_away.ensures ∙ c.if-leads_away.false)))
     (sym (rest_none v (way w.0 row)) ∙ sym (ap none left) ∙ sym c.if-is_empty.ensures)))
 
 pub loop-row-preserved : goal.loop-row-preserved
@@ -66,6 +66,6 @@ loop-row-preserved c =
       | else-is_empty-via-else-is_empty x ↦ and_right (contained to v) (contained v to) (sym (rest_none v to) ∙ sym (ap none left) ∙ sym c.is_empty.ensures ∙ x.if-is_empty.false)
     ] in (
       to,
-      walk_next (same v) v (only v) rows c.loop-row.ahead.now w.0 row rest w.1 e (sym c.has.ensures ∙ c.if-not-has.false) other,
+      walk_next (same v) v (only v) rows c.loop-row.ahead.now w.0 row rest w.1 e (not-false (among row.number v) (sym c.leads_away.ensures ∙ c.if-leads_away.false)) other,
       subst (λ z. Trail key z to) (sym c.follow.ensures.left) (trail_more key c.loop-row.left w.0 w.2 row c.follow.result deep.0 deep.1 c.follow.ensures.value),
     )
