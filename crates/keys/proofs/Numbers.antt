@@ -1,10 +1,13 @@
 -- Numbers among others, and the states that a set has not. Assumes nothing.
-use Rattle.std.proofs.Common.{◌≡◌, ℕ, zero, suc, ◌^◌, ◌<◌, ◌≤◌, Bool, true, false, cond, not, ◌&&◌, ◌||◌, eqb, ltb, List, [], ◌∷◌, ◌++◌, length, Decides, sym, refl, ap, ◌∙◌, ⊎_elim, arith}
+use Rattle.std.proofs.Common.{◌≡◌, ℕ, zero, suc, ◌^◌, ◌<◌, ◌≤◌, Bool, true, false, cond, not, ◌&&◌, ◌||◌, eqb, ltb, List, [], ◌∷◌, ◌++◌, length, Some, None, Option, MatchOption, Decides, sym, refl, ap, ◌∙◌, ⊎_elim, arith}
 use Rattle.std.proofs.lemmas.Bool.{cases_Bool, cases_eq, cases_lt, both_ways, false≢true, and_parts, and_from, or_cases, or_left, or_right, eqb-true, eq-eqb, ne_eqb, lt-ltb, le-ltb, not_from_false}
 use Rattle.std.proofs.lemmas.List.{length-append, append-nil}
 use Rattle.std.proofs.lemmas.List.Elements.{filter-append}
 use Rattle.sets.specs.Sets.{has, union, one}
 use Rattle.sets.proofs.Members.{has_set_of, same_set, union_one}
+use Rattle.std.specs.Bool.{then_some}
+use Rattle.keys.specs.declared.key.Key.{Key}
+use Rattle.keys.specs.Listed.{leading, numbers}
 use Rattle.keys.specs.Numbers.{among, contained, without, rest, none, missing}
 
 or_assoc : (x y z : Bool) → (x || (y || z)) ≡ ((x || y) || z)
@@ -170,3 +173,22 @@ none_missing c l = ⊎_elim
     (λ (e : c ≡ 18446744073709551615 → ⊥). ne_eqb c 18446744073709551615 e ∙ sym h)
     (cases_eq c 18446744073709551615))
     (cases_Bool (none (missing c 64)))
+
+-- a key is empty exactly if no number leads it and its set is all 64 states
+pub none_numbers : (k : Key) → k.set < 2 ^ 64 → k.lead ≡ None → eqb k.set 18446744073709551615 ≡ none (numbers k)
+none_numbers k l e = none_missing k.set l ∙ sym (ap (λ o. none (leading o ++ missing k.set 64)) e)
+
+-- a number is taken away from what leads, and from the states
+pub numbers_without : (o p : Option ℕ) (c d n : ℕ) → MatchOption o (p ≡ None) (λ m. p ≡ then_some (not (eqb m n)) m) → d ≡ union c (one n)
+    → leading p ++ missing d 64 ≡ without n (leading o ++ missing c 64)
+numbers_without o p c d n h e =
+    let states : missing d 64 ≡ without n (missing c 64) = ap (λ s. missing s 64) e ∙ missing_added c n 64 (omega arith) in
+    ap (λ w. leading p ++ w) states ∙ ap (λ w. w ++ without n (missing c 64)) (leads o p h) ∙ sym (filter-append (λ m. not (eqb m n)) (leading o) (missing c 64))
+  where
+    kept : (b : Bool) (m : ℕ) → leading (then_some b m) ≡ cond b (m ∷ []) []
+    kept true m = refl
+    kept false m = refl
+
+    leads : (o p : Option ℕ) → MatchOption o (p ≡ None) (λ m. p ≡ then_some (not (eqb m n)) m) → leading p ≡ without n (leading o)
+    leads None p h = ap leading h
+    leads (Some m) p h = ap leading h ∙ kept (not (eqb m n)) m

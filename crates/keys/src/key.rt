@@ -1,7 +1,8 @@
 // A key as a value.
-ghost use Rattle.std.specs.Prelude.{◌≡◌, ◌≤◌, length, take};
+ghost use Rattle.std.specs.Prelude.{◌≡◌, ◌≤◌, not, length};
+ghost use Rattle.sets.specs.Sets.{has};
 ghost use Rattle.keys.specs.Numbers.{among, without, none, missing};
-ghost use Rattle.keys.specs.Listed.{leading, numbers};
+ghost use Rattle.keys.specs.Listed.{numbers};
 
 use sets::{MAX_STATES, States, add, holds};
 
@@ -20,53 +21,46 @@ impl Key {
     pub fn has(&self, number: u16) -> bool
         ensures { result ≡ among number (numbers self.now) }
     {
-        leads(self.lead, number) || is_missing(self.set, number)
+        self.lead == Some(number) || is_missing(self.set, number)
     }
 
     // The key with the number taken away.
+    #[tactic(auto, using(crate::proofs::Numbers::numbers_without))]
     pub fn without(self, number: u16) -> Key
         ensures { numbers result ≡ without number (numbers self) }
     {
         Key {
-            lead: drop_lead(self.lead, number),
+            lead: self.lead.filter(|first| *first != number),
             set: add(self.set, number as usize),
         }
     }
 
     // Whether there is no number in the key.
+    #[tactic(auto, using(crate::proofs::Numbers::none_numbers))]
     pub fn is_empty(&self) -> bool
         ensures { result ≡ none (numbers self.now) }
     {
-        match self.lead {
-            Some(_) => false,
-            None => self.set == States::MAX,
-        }
+        self.lead.is_none() && self.set == States::MAX
     }
 
-    // Writes the numbers to the front of `out`, and answers how many there are.
-    pub fn write(&self, out: &mut [u16; MAX_NUMBERS]) -> usize
-        ensures len { result ≡ length (numbers self.now) }
-        ensures items { take result out.new ≡ numbers self.now }
-        ensures short { result ≤ 65 }
+    // Writes the numbers to the front of `out`, and answers with what it wrote.
+    pub fn write<'a>(&self, out: &'a mut [u16; MAX_NUMBERS]) -> &'a [u16]
+        ensures items { result.now ≡ numbers self.now }
+        ensures short { length result.now ≤ 65 }
     {
-        let mut count = write_lead(self.lead, out);
+        let mut count = 0;
+        if let Some(first) = self.lead {
+            out[0] = first;
+            count = 1;
+        }
+        // Stays: a filter over the range would leave the same lines in the loop, and take away the bound on the count.
         for q in 0..MAX_STATES {
-            if !holds(self.set, q) {
+            if lacks(self.set, q) {
                 out[count] = q as u16;
                 count += 1;
             }
         }
-        count
-    }
-}
-
-// Whether the number leads.
-fn leads(lead: Option<u16>, number: u16) -> bool
-    ensures { result ≡ among number (leading lead) }
-{
-    match lead {
-        Some(first) => number == first,
-        None => false,
+        &out[..count]
     }
 }
 
@@ -74,29 +68,12 @@ fn leads(lead: Option<u16>, number: u16) -> bool
 fn is_missing(set: States, number: u16) -> bool
     ensures { result ≡ among number (missing set 64) }
 {
-    number < 64 && !holds(set, number as usize)
+    number < 64 && lacks(set, number as usize)
 }
 
-// The number that leads, unless it is the one given.
-fn drop_lead(lead: Option<u16>, number: u16) -> Option<u16>
-    ensures { leading result ≡ without number (leading lead) }
+// Whether the set has not the state.
+fn lacks(set: States, q: usize) -> bool
+    ensures { result ≡ not (has set q) }
 {
-    match lead {
-        Some(first) => { if first == number { None } else { lead } }
-        None => None,
-    }
-}
-
-// Writes the number that leads, if there is one, and answers how many were written.
-fn write_lead(lead: Option<u16>, out: &mut [u16; MAX_NUMBERS]) -> usize
-    ensures len { result ≡ length (leading lead) }
-    ensures items { take result out.new ≡ leading lead }
-{
-    match lead {
-        Some(first) => {
-            out[0] = first;
-            1
-        }
-        None => 0,
-    }
+    !holds(set, q)
 }

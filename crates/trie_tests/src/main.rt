@@ -2,8 +2,8 @@
 // random and is always the same. It prints what was counted, and how often the two differed.
 #![tactic(auto)]
 
-use joint_kinds::joint::Joint;
 use joint_kinds::parts::JointParts;
+use keys::Keyed;
 use kind_shapes::JointConfig;
 use kinds::Kind;
 use models::arrow::Arrow;
@@ -12,6 +12,7 @@ use pattern_kinds::pattern::Single;
 use patterns::examples::latch;
 use sets::States;
 use std::alloc::{AllocError, Global};
+use std::fmt;
 use stores::Store;
 use stores::list::ListStore;
 use stores::refusals::Refused;
@@ -35,13 +36,53 @@ static DOOR: [Arrow; 1] = [Arrow {
 }];
 
 // What was counted over a list of steps.
-#[derive(Clone, Copy)]
+#[derive(Clone, Copy, Default)]
 struct Counts {
     inserted: u32,
     covered: u32,
     full: u32,
     held: u32,
     differed: u32,
+}
+
+impl fmt::Display for Counts {
+    fn fmt<W: fmt::Write>(&self, f: &mut fmt::Formatter<W>) -> fmt::Result {
+        write!(
+            f,
+            "inserted {}, covered {}, full {}, held {}, differed {}",
+            self.inserted, self.covered, self.full, self.held, self.differed
+        )
+    }
+}
+
+impl Counts {
+    // One insertion into both, after both were asked about x, and size and maximum after it.
+    fn try_both<K: Kind, L: Store<K>, T: Store<K>>(
+        &mut self,
+        kind: &K,
+        list: &mut L,
+        trie: &mut T,
+        x: K::Config,
+    ) {
+        let covered = list.covers(kind, x);
+        let held = list.holds(kind, x);
+        let asked = trie.covers(kind, x) == covered && trie.holds(kind, x) == held;
+        let answer = list.insert(kind, x);
+        let answered = trie.insert(kind, x) == answer;
+        let sized = list.size() == trie.size() && list.maximum() == trie.maximum();
+        let kept = answer.is_err() || trie.covers(kind, x);
+        match answer {
+            Ok(()) => self.inserted = self.inserted.wrapping_add(1),
+            Err(Refused::Covered) => self.covered = self.covered.wrapping_add(1),
+            Err(Refused::Full) => self.full = self.full.wrapping_add(1),
+        }
+        if held {
+            self.held = self.held.wrapping_add(1);
+        }
+        if !(asked && answered && sized && kept) {
+            self.differed = self.differed.wrapping_add(1);
+        }
+    }
 }
 
 fn main(rt: HostRuntime) -> anyhow::Result<()> {
@@ -51,8 +92,10 @@ fn main(rt: HostRuntime) -> anyhow::Result<()> {
 fn run(rt: &HostRuntime) -> anyhow::Result<()> {
     if let Ok(checked) = latch().checked() {
         let kind = Single::new(checked.seal());
-        let counts = sets_tried(rt.alloc(), &kind)?;
-        print(rt, "pattern", counts)?;
+        // Sets that lack some of a few states, and now and then any set.
+        let mut room = [0; MAXIMUM];
+        let counts = counted(rt.alloc(), &kind, &mut room, 7, |seed| drawn(seed))?;
+        println!(rt; "pattern: {counts}")?;
     }
     let parts = JointParts {
         pattern: latch(),
@@ -65,81 +108,58 @@ fn run(rt: &HostRuntime) -> anyhow::Result<()> {
     };
     if let Ok(checked) = parts.checked() {
         let kind = checked.seal();
-        let counts = places_tried(rt.alloc(), &kind)?;
-        print(rt, "joint", counts)?;
-    }
-    Ok(())
-}
-
-fn print(rt: &HostRuntime, name: &str, counts: Counts) -> anyhow::Result<()> {
-    println!(rt;
-        "{name}: inserted {}, covered {}, full {}, held {}, differed {}",
-        counts.inserted, counts.covered, counts.full, counts.held, counts.differed
-    )?;
-    Ok(())
-}
-
-// The pattern kind: sets that lack some of a few states, and now and then any set.
-fn sets_tried(heap: Global, kind: &Single) -> Result<Counts, AllocError> {
-    let mut rows = fresh_rows(heap)?;
-    let mut counts = nothing();
-    let mut seed = 7;
-    for _ in 0..ROUNDS {
-        let mut room = [0; MAXIMUM];
-        let mut list = ListStore::new(&mut room);
-        let mut trie: TrieStore<0> = TrieStore::new(rows);
-        for _ in 0..STEPS {
-            seed = stirred(seed);
-            counts = tried(kind, &mut list, &mut trie, drawn(seed), counts);
-        }
-        rows = trie.into_rows();
-    }
-    Ok(counts)
-}
-
-// The joint kind: the same sets with a few model states, some of which no model has.
-fn places_tried(heap: Global, kind: &Joint) -> Result<Counts, AllocError> {
-    let mut rows = fresh_rows(heap)?;
-    let mut counts = nothing();
-    let mut seed = 11;
-    for _ in 0..ROUNDS {
+        // The same sets with a few model states, some of which no model has.
         let mut room = [JointConfig { state: 0, set: 0 }; MAXIMUM];
-        let mut list = ListStore::new(&mut room);
-        let mut trie: TrieStore<1> = TrieStore::new(rows);
-        for _ in 0..STEPS {
-            seed = stirred(seed);
-            let x = JointConfig {
+        let counts = counted(
+            rt.alloc(),
+            &kind,
+            &mut room,
+            11,
+            |seed| JointConfig {
                 state: (seed % 3) as u8 * 127,
                 set: drawn(stirred(seed)),
-            };
-            counts = tried(kind, &mut list, &mut trie, x, counts);
+            },
+        )?;
+        println!(rt; "joint: {counts}")?;
+    }
+    Ok(())
+}
+
+// A list in the room and a trie, over a kind whose configurations are drawn from the numbers of the sequence behind the
+// seed.
+fn counted<const LEADS: usize, K: Keyed<LEADS>, F: Fn(u64) -> K::Config>(
+    heap: Global,
+    kind: &K,
+    room: &mut [K::Config],
+    seed: u64,
+    draw: F,
+) -> Result<Counts, AllocError>
+    requires { F.IsAlwaysCallable draw }
+{
+    let mut rows = fresh_rows(heap)?;
+    let mut counts = Counts::default();
+    let mut seed = seed;
+    for _ in 0..ROUNDS {
+        let mut list = ListStore::new(&mut *room);
+        let mut trie: TrieStore<LEADS> = TrieStore::new(rows);
+        for _ in 0..STEPS {
+            seed = stirred(seed);
+            counts.try_both(kind, &mut list, &mut trie, draw(seed));
         }
         rows = trie.into_rows();
     }
     Ok(counts)
 }
 
+// Rows in which anything stands.
 fn fresh_rows(heap: Global) -> Result<Vec<Row>, AllocError> {
-    let mut rows = Vec::new(heap);
-    for i in 0..ROWS {
-        rows.push(Row {
-            number: (i % 70) as u16,
-            depth: 9,
-            ends: true,
-            skip: i,
-        })?;
-    }
-    Ok(rows)
-}
-
-fn nothing() -> Counts {
-    Counts {
-        inserted: 0,
-        covered: 0,
-        full: 0,
-        held: 0,
-        differed: 0,
-    }
+    let rows = (0..ROWS).map(|i| Row {
+        number: (i % 70) as u16,
+        depth: 9,
+        ends: true,
+        skip: i,
+    });
+    rows.collect(heap)
 }
 
 // The next number of the sequence.
@@ -155,49 +175,5 @@ fn drawn(seed: u64) -> States {
         seed
     } else {
         States::MAX ^ ((seed >> 8) & 0x3FF)
-    }
-}
-
-// One insertion into both, after both were asked about x, and size and maximum after it.
-fn tried<K: Kind, L: Store<K>, T: Store<K>>(
-    kind: &K,
-    list: &mut L,
-    trie: &mut T,
-    x: K::Config,
-    counts: Counts,
-) -> Counts {
-    let mut counts = counts;
-    let covered = list.covers(kind, x);
-    let held = list.holds(kind, x);
-    let mut same = trie.covers(kind, x) == covered && trie.holds(kind, x) == held;
-    if held {
-        counts.held = counts.held.wrapping_add(1);
-    }
-    let answer = told(list.insert(kind, x));
-    if told(trie.insert(kind, x)) != answer {
-        same = false;
-    }
-    match answer {
-        0 => counts.inserted = counts.inserted.wrapping_add(1),
-        16 => counts.covered = counts.covered.wrapping_add(1),
-        _ => counts.full = counts.full.wrapping_add(1),
-    }
-    if list.size() != trie.size()
-        || list.maximum() != trie.maximum()
-        || !trie.covers(kind, x) && answer == 0
-    {
-        same = false;
-    }
-    if !same {
-        counts.differed = counts.differed.wrapping_add(1);
-    }
-    counts
-}
-
-// The number of the refusal, or 0 where there is none.
-fn told(answer: Result<(), Refused>) -> u8 {
-    match answer {
-        Ok(()) => 0,
-        Err(refused) => refused.number(),
     }
 }

@@ -1,24 +1,26 @@
 -- The search for the place of a word. Assumes nothing.
-use Rattle.std.proofs.Common.{◌≡◌, ℕ, zero, suc, ◌+◌, ◌<◌, ◌≤◌, true, List, [], ◌∷◌, ◌++◌, length, get_or, take, drop, sym, refl, ap, ◌∙◌, subst, ⊎_elim, arith}
+use Rattle.std.proofs.Common.{◌≡◌, ℕ, suc, ◌+◌, ◌-◌, ◌<◌, ◌≤◌, true, List, [], ◌∷◌, ◌++◌, length, get_or, take, drop, sym, refl, ap, ◌∙◌, subst, ⊎_elim, arith, append_assoc, take-append-drop}
 use Rattle.std.proofs.lemmas.Bool.{cases_lt}
-use Rattle.std.proofs.lemmas.List.{drop_all, drop-drop, take_more, take-take, length-take-le}
+use Rattle.std.proofs.Math.Seq.{drop-append_seam}
+use Rattle.std.proofs.lemmas.List.{length-append, take_at, take_more, take-take, length-take-le}
 use Rattle.tries.specs.declared.row.Row.{Row}
 use Rattle.tries.specs.Rows.{way, after, run, linked, shaped}
 use Rattle.tries.specs.Changes.{Spotted}
 use Rattle.tries.proofs.Paths.{Parts, length_way, way_take, run_deeper, run_stops, shaped_parts, linked_parts, after_append}
-use Rattle.tries.proofs.Walks.{blank, read_at, skip_is, skip_fits, skipped, drop_linked, run_here}
+use Rattle.tries.proofs.Walks.{drop_linked}
 
--- the numbers shared so far, and the rows ahead
-pub record Search (w : List ℕ) (rows : List Row) (i d : ℕ) : Type 0 where
-  pub within : i ≤ length rows
+-- the rows in front, whose last shares d numbers with the word, and the rows ahead
+pub record Search (w : List ℕ) (rows ahead : List Row) (d : ℕ) : Type 0 where
+  pub front : List Row
+  pub whole : rows ≡ front ++ ahead
   pub short : d < length w
-  pub shared : take d (after [] (take i rows)) ≡ take d w
-  pub deep : d ≤ length (after [] (take i rows))
-  pub linked : linked (drop i rows) ≡ true
-  pub shaped : shaped (length (after [] (take i rows))) (drop i rows) ≡ true
+  pub shared : take d (after [] front) ≡ take d w
+  pub deep : d ≤ length (after [] front)
+  pub linked : linked ahead ≡ true
+  pub shaped : shaped (length (after [] front)) ahead ≡ true
 
-pub search_start : (w : List ℕ) (rows : List Row) → 0 < length w → linked rows ≡ true → shaped 0 rows ≡ true → Search w rows 0 0
-search_start w rows l h s = record { within = omega arith; short = l; shared = refl; deep = omega arith; linked = h; shaped = s }
+pub search_start : (w : List ℕ) (rows : List Row) → 0 < length w → linked rows ≡ true → shaped 0 rows ≡ true → Search w rows rows 0
+search_start w rows l h s = record { front = []; whole = refl; short = l; shared = refl; deep = omega arith; linked = h; shaped = s }
 
 -- the way behind the rows deeper than d shares d numbers with the way before them
 record Behind (k d : ℕ) (q : List ℕ) (rs : List Row) : Type 0 where
@@ -41,72 +43,77 @@ behind d q (r ∷ rs) h l =
     subst (λ k. Behind k d q (r ∷ rs)) (sym (run_stops d r rs m)) x)
     (cases_lt d r.depth)
 
-take_none : {X : Type 0} (b : ℕ) → take {A = X} b [] ≡ []
-take_none zero = refl
-take_none (suc b) = refl
+module _ (w : List ℕ) (rows ahead : List Row) (d : ℕ) (s : Search w rows ahead d) where
+  pub search_within : length ahead ≤ length rows
+  search_within = omega (arith, ap length s.whole, length-append s.front ahead)
 
-pub take_add : {X : Type 0} (a b : ℕ) (xs : List X) → take (a + b) xs ≡ take a xs ++ take b (drop a xs)
-take_add zero b xs = let e : 0 + b ≡ b = omega arith in ap (λ k. take k xs) e
-take_add (suc a) b [] = let e : suc a + b ≡ suc (a + b) = omega arith in ap (λ k. take k []) e ∙ sym (take_none b)
-take_add (suc a) b (x ∷ xs) = let e : suc a + b ≡ suc (a + b) = omega arith in ap (λ k. take k (x ∷ xs)) e ∙ ap (λ z. x ∷ z) (take_add a b xs)
+  pub search_stops : run d ahead ≡ 0 → Spotted w rows (length rows - length ahead) d
+  search_stops z =
+      let i : length s.front ≡ length rows - length ahead = omega (arith, ap length s.whole, length-append s.front ahead) in
+      let before : take (length s.front) rows ≡ s.front = ap (take (length s.front)) s.whole ∙ take_at s.front ahead (length s.front) refl in
+      let behind : drop (length s.front) rows ≡ ahead = ap (drop (length s.front)) s.whole ∙ drop-append_seam s.front ahead in
+      subst (λ j. Spotted w rows j d) i (record {
+        within = omega (arith, ap length s.whole, length-append s.front ahead);
+        short = s.short;
+        shared = ap (λ z. take d (after [] z)) before ∙ s.shared;
+        deep = omega (arith, s.deep, ap (λ z. length (after [] z)) before);
+        apart = ap (run d) behind ∙ z;
+      })
 
-module _ (w : List ℕ) (rows : List Row) (i d : ℕ) (s : Search w rows i d) where
-  pub search_end : length rows ≤ i → Spotted w rows i d
-  search_end h = record { within = s.within; short = s.short; shared = s.shared; deep = s.deep; apart = ap (run d) (drop_all i rows h) }
+  pub search_end : length ahead ≡ 0 → Spotted w rows (length rows - length ahead) d
+  search_end h = search_stops (none ahead h)
+    where
+      none : (rs : List Row) → length rs ≡ 0 → run d rs ≡ 0
+      none [] h = refl
+      none (r ∷ rs) h = absurd (omega arith)
 
-  module _ (l : i < length rows) where
-    abbrev row : Row
-    row = get_or rows i blank
-
-    abbrev ahead : List Row
-    ahead = drop (i + 1) rows
-
+  module _ (row : Row) (rest : List Row) (e : ahead ≡ row ∷ rest) where
     abbrev before : List ℕ
-    before = after [] (take i rows)
+    before = after [] s.front
 
-    parts : Parts (length before) row ahead
-    parts = shaped_parts (length before) row ahead (subst (λ z. shaped (length before) z ≡ true) (read_at rows i l) s.shaped)
+    parts : Parts (length before) row rest
+    parts = shaped_parts (length before) row rest (subst (λ z. shaped (length before) z ≡ true) e s.shaped)
 
-    pub search_stops : row.depth < d → Spotted w rows i d
-    search_stops m = record { within = s.within; short = s.short; shared = s.shared; deep = s.deep; apart = run_here rows i row (read_at rows i l) d (omega arith) }
+    links : (row.skip ≡ suc (run row.depth rest)) × (linked rest ≡ true)
+    links = linked_parts row rest (subst (λ z. linked z ≡ true) e s.linked)
+
+    pub search_link : row.skip ≡ suc (run row.depth rest)
+    search_link = links.0
+
+    pub search_here : row.depth < d → Spotted w rows (length rows - length ahead) d
+    search_here m = search_stops (ap (run d) e ∙ run_stops d row rest (omega arith))
 
     -- one number more is shared
-    pub search_next : row.depth ≡ d → d + 1 < length w → row.number ≡ get_or w d 0 → Search w rows (i + 1) (d + 1)
-    search_next e m n = record {
-      within = omega arith;
+    pub search_next : row.depth ≡ d → d + 1 < length w → row.number ≡ get_or w d 0 → Search w rows rest (d + 1)
+    search_next h m n = record {
+      front = s.front ++ row ∷ [];
+      whole = s.whole ∙ ap (λ z. s.front ++ z) e ∙ sym (append_assoc s.front (row ∷ []) rest);
       short = m;
       shared = ap (take (d + 1)) whole ∙ take-take (d + 1) (d + 1) w (omega arith);
-      deep = omega (arith, long);
-      linked = (linked_parts row ahead (subst (λ z. linked z ≡ true) (read_at rows i l) s.linked)).1;
-      shaped = subst (λ k. shaped k ahead ≡ true) (sym (ap length here ∙ length_way before row parts.deep)) parts.behind;
+      deep = omega (arith, ap length whole, length-take-le (d + 1) w (omega arith));
+      linked = links.1;
+      shaped = subst (λ k. shaped k rest ≡ true) (sym (ap length here ∙ length_way before row parts.deep)) parts.behind;
     }
       where
-        here : after [] (take (i + 1) rows) ≡ way before row
-        here = ap (after []) (take_more rows i blank l) ∙ after_append [] (take i rows) (row ∷ [])
+        here : after [] (s.front ++ row ∷ []) ≡ way before row
+        here = after_append [] s.front (row ∷ [])
 
-        whole : after [] (take (i + 1) rows) ≡ take (d + 1) w
-        whole = here ∙ ap (λ k. take k before ++ row.number ∷ []) e ∙ ap (λ z. z ++ row.number ∷ []) s.shared ∙ ap (λ k. take d w ++ k ∷ []) n ∙ sym (take_more w d 0 s.short)
-
-        long : length (after [] (take (i + 1) rows)) ≡ d + 1
-        long = ap length whole ∙ length-take-le (d + 1) w (omega arith)
+        whole : after [] (s.front ++ row ∷ []) ≡ take (d + 1) w
+        whole = here ∙ ap (λ k. take k before ++ row.number ∷ []) h ∙ ap (λ z. z ++ row.number ∷ []) s.shared ∙ ap (λ k. take d w ++ k ∷ []) n ∙ sym (take_more w d 0 s.short)
 
     -- all beneath the row is passed over
-    pub search_skip : d ≤ row.depth → Search w rows (i + row.skip) d
-    search_skip m = record {
-      within = (skip_fits rows i row l (read_at rows i l) s.linked).1;
-      short = s.short;
-      shared = ap (take d) there ∙ sym (take-take d row.depth (after (way before row) (take (run row.depth ahead) ahead)) m) ∙ ap (take d) b.same ∙ take-take d row.depth (way before row) m
-          ∙ way_take before row d m parts.deep ∙ s.shared;
-      deep = omega (arith, b.long, ap length there);
-      linked = subst (λ z. linked z ≡ true) (drop-drop row.skip i rows) (drop_linked row.skip (drop i rows) s.linked);
-      shaped = subst (λ k. shaped (length k) (drop (i + row.skip) rows) ≡ true) (sym there) (subst (λ z. shaped (length (after (way before row) (take (run row.depth ahead) ahead))) z ≡ true) (sym (skipped rows i row l (read_at rows i l) s.linked)) b.shaped);
-    }
-      where
-        b : Behind (run row.depth ahead) row.depth (way before row) ahead
-        b = behind row.depth (way before row) ahead (subst (λ k. shaped k ahead ≡ true) (sym (length_way before row parts.deep)) parts.behind) (omega (arith, length_way before row parts.deep))
-
-        there : after [] (take (i + row.skip) rows) ≡ after (way before row) (take (run row.depth ahead) ahead)
-        there =
-            ap (after []) (take_add i row.skip rows) ∙ after_append [] (take i rows) (take row.skip (drop i rows))
-            ∙ ap (λ z. after before (take row.skip z)) (read_at rows i l)
-            ∙ ap (λ k. after before (take k (row ∷ ahead))) (skip_is rows i row l (read_at rows i l) s.linked)
+    pub search_skip : d ≤ row.depth → (next : List Row) → next ≡ drop (run row.depth rest) rest → Search w rows next d
+    search_skip m next is =
+        let k = run row.depth rest in
+        let b = behind row.depth (way before row) rest (subst (λ j. shaped j rest ≡ true) (sym (length_way before row parts.deep)) parts.behind) (omega (arith, length_way before row parts.deep)) in
+        let there : after [] (s.front ++ row ∷ take k rest) ≡ after (way before row) (take k rest) = after_append [] s.front (row ∷ take k rest) in
+        subst (λ z. Search w rows z d) (sym is) (record {
+          front = s.front ++ row ∷ take k rest;
+          whole = s.whole ∙ ap (λ z. s.front ++ z) (e ∙ ap (λ z. row ∷ z) (sym (take-append-drop k rest))) ∙ sym (append_assoc s.front (row ∷ take k rest) (drop k rest));
+          short = s.short;
+          shared = ap (take d) there ∙ sym (take-take d row.depth (after (way before row) (take k rest)) m) ∙ ap (take d) b.same ∙ take-take d row.depth (way before row) m
+              ∙ way_take before row d m parts.deep ∙ s.shared;
+          deep = omega (arith, b.long, ap length there);
+          linked = drop_linked k rest links.1;
+          shaped = subst (λ q. shaped (length q) (drop k rest) ≡ true) (sym there) b.shaped;
+        })

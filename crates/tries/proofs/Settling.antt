@@ -123,12 +123,11 @@ fewer_kept xs ys m n l e = sym (take-take m n ys l) ∙ ap (take m) e ∙ take-t
 
 -- the row written before the others
 pub written : (rows : List Row) (start : ℕ) (r : Row) → 0 < start → start ≤ length rows → (r.ends || ltb 0 (run r.depth (drop start rows))) ≡ true
-    → (count : ℕ) → count ≡ run r.depth (drop start rows)
-    → drop (start - 1) (set rows (start - 1) (record { number = r.number; depth = r.depth; ends = r.ends; skip = 1 + count })) ≡ bear r (drop start rows)
-written rows start r l h t count e =
+    → (count : ℕ) → count ≡ run r.depth (drop start rows) → (x : Row) → x ≡ record { number = r.number; depth = r.depth; ends = r.ends; skip = suc count }
+    → drop (start - 1) (set rows (start - 1) x) ≡ bear r (drop start rows)
+written rows start r l h t count e x is =
     let j : start - 1 + 1 ≡ start = omega arith in
-    let n : 1 + count ≡ suc (run r.depth (drop start rows)) = omega arith in
-    drop-set rows (start - 1) (record { number = r.number; depth = r.depth; ends = r.ends; skip = 1 + count }) (omega arith)
-    ∙ ap (λ k. record { number = r.number; depth = r.depth; ends = r.ends; skip = 1 + count } ∷ drop k rows) j
-    ∙ ap (λ k. record { number = r.number; depth = r.depth; ends = r.ends; skip = k } ∷ drop start rows) n
+    drop-set rows (start - 1) x (omega arith)
+    ∙ ap (λ k. x ∷ drop k rows) j
+    ∙ ap (λ y. y ∷ drop start rows) (is ∙ ap (λ k. record { number = r.number; depth = r.depth; ends = r.ends; skip = suc k }) e)
     ∙ sym (ap (λ b. cond b (counted r (drop start rows) ∷ drop start rows) (drop start rows)) t)

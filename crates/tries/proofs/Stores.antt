@@ -102,19 +102,22 @@ module _ (leads : ℕ) {C : Type 0} (s : Shape C) (config : List ℕ → C) (key
       ap (λ b. cond b (Err Covered) (cond (ltb (length ws) n) (Ok tt) (Err Full))) (sym (covered_keys leads s config keyed v p ws a) ∙ ap (covered s (map config ws)) is)
       ∙ ap (λ k. cond (covered s (map config ws) x) (Err Covered) (cond (ltb k n) (Ok tt) (Err Full))) (sym (length-map ws config))
 
-  module _ (e : Ok tt ≡ admitted_key v ws n) where
+  -- what is known once the key is admitted: the answer, that none is covered and there is room, and what may be held then
+  pub record Admitted : Type 0 where
     pub entered : Ok tt ≡ admitted s x (map config ws) n
-    entered = e ∙ answer
-
     pub uncovered : reached v ws ≡ false
-    uncovered = sym (covered_keys leads s config keyed v p ws a) ∙ ap (covered s (map config ws)) is ∙ (admitted_new s x (map config ws) n entered).0
-
     pub fewer : length ws < n
-    fewer = omega (arith, (admitted_new s x (map config ws) n entered).1, length-map ws config)
+    pub held : (vs : List (List ℕ)) → Reordered (put v ws) vs → Reordered (inserted s x (map config ws)) (map config vs)
 
-  -- what is held after it
-  pub held_after : (vs : List (List ℕ)) → Reordered (put v ws) vs → Reordered (inserted s x (map config ws)) (map config vs)
-  held_after vs r = subst (λ z. Reordered z (map config vs)) (sym (inserted_keys leads s config keyed v p ws a) ∙ ap (λ y. inserted s y (map config ws)) is) (reordered_map config r)
+  pub admission : Ok tt ≡ admitted_key v ws n → Admitted
+  admission e =
+      let told = admitted_new s x (map config ws) n (e ∙ answer) in
+      record {
+        entered = e ∙ answer;
+        uncovered = sym (covered_keys leads s config keyed v p ws a) ∙ ap (covered s (map config ws)) is ∙ told.0;
+        fewer = omega (arith, told.1, length-map ws config);
+        held = λ vs r. subst (λ z. Reordered z (map config vs)) (sym (inserted_keys leads s config keyed v p ws a) ∙ ap (λ y. inserted s y (map config ws)) is) (reordered_map config r);
+      }
 
 -- where a key is not covered, none ends at the root
 pub root_free : (root : Bool) (v : List ℕ) (rs : List Row) → reached v (words root rs) ≡ false → root ≡ false

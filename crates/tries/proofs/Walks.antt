@@ -1,12 +1,12 @@
 -- The walk down the rows by the numbers of a key. Assumes nothing.
-use Rattle.std.proofs.Common.{◌≡◌, ℕ, zero, suc, ◌+◌, ◌<◌, ◌≤◌, Bool, true, false, cond, ◌&&◌, ◌||◌, eqb, ltb, leb, List, [], ◌∷◌, ◌++◌, length, get_or, take, drop, sym, refl, ap, ◌∙◌, subst, ⊎_elim, arith, length-drop, take-append-drop}
+use Rattle.std.proofs.Common.{◌≡◌, ℕ, zero, suc, ◌+◌, ◌<◌, ◌≤◌, Bool, true, false, cond, ◌&&◌, ◌||◌, eqb, ltb, leb, List, [], ◌∷◌, ◌++◌, length, get_or, take, drop, sym, refl, ap, ◌∙◌, subst, ⊎_elim, arith, take-append-drop}
 use Rattle.std.proofs.lemmas.Bool.{cases_lt, cases_Bool, both_ways, and_parts, and_from, or_left, or_right, eq-eqb, le-leb}
-use Rattle.std.proofs.lemmas.List.{drop_more, drop_all, drop-drop, take_all}
+use Rattle.std.proofs.lemmas.List.{drop_more, take_all}
 use Rattle.keys.specs.Numbers.{among, contained}
 use Rattle.keys.proofs.Numbers.{among_append, contained_at}
 use Rattle.tries.specs.declared.row.Row.{Row}
 use Rattle.tries.specs.Rows.{way, paths, run, linked, shaped, some}
-use Rattle.tries.proofs.Paths.{Parts, length_way, way_take, run_deeper, run_stops, run_le, shaped_parts, linked_parts, paths_lead}
+use Rattle.tries.proofs.Paths.{Parts, length_way, way_take, run_deeper, run_stops, shaped_parts, linked_parts, paths_lead}
 
 -- ---- rows behind a subtree
 
@@ -37,23 +37,6 @@ blank = record { number = 0; depth = 0; ends = false; skip = 0 }
 pub read_at : (rows : List Row) (i : ℕ) → i < length rows → drop i rows ≡ get_or rows i blank ∷ drop (i + 1) rows
 read_at rows i l = drop_more rows i blank l
 
-module _ (rows : List Row) (i : ℕ) (row : Row) (l : i < length rows) (e : drop i rows ≡ row ∷ drop (i + 1) rows) (links : linked (drop i rows) ≡ true) where
-  pub skip_is : row.skip ≡ suc (run row.depth (drop (i + 1) rows))
-  skip_is = (linked_parts row (drop (i + 1) rows) (subst (λ z. linked z ≡ true) e links)).0
-
-  pub skip_fits : (0 < row.skip) × (i + row.skip ≤ length rows)
-  skip_fits =
-      let k = skip_is in
-      let m = run_le row.depth (drop (i + 1) rows) in
-      let n = length-drop (i + 1) rows in
-      (omega arith, omega arith)
-
-  -- the rows behind those beneath the row
-  pub skipped : drop (i + row.skip) rows ≡ drop (run row.depth (drop (i + 1) rows)) (drop (i + 1) rows)
-  skipped =
-      sym (drop-drop row.skip i rows) ∙ ap (drop row.skip) e
-      ∙ ap (λ k. drop k (row ∷ drop (i + 1) rows)) skip_is
-
 -- what lies deeper than d from a deeper row on: all beneath the row, and what follows
 run_past : (d k : ℕ) (rs : List Row) → d ≤ k → run d rs ≡ run k rs + run d (drop (run k rs) rs)
 run_past d k [] l = refl
@@ -67,17 +50,12 @@ run_past d k (r ∷ rs) l = ⊎_elim
     (λ (m : r.depth ≤ k). let z : run d (r ∷ rs) ≡ 0 + run d (r ∷ rs) = omega arith in z ∙ sym (ap (λ j. j + run d (drop j (r ∷ rs))) (run_stops k r rs m)))
     (cases_lt k r.depth)
 
-module _ (rows : List Row) (i : ℕ) (row : Row) where
-  pub run_here : drop i rows ≡ row ∷ drop (i + 1) rows → (d : ℕ) → row.depth ≤ d → run d (drop i rows) ≡ 0
-  run_here e d l = ap (run d) e ∙ run_stops d row (drop (i + 1) rows) l
-
-  pub run_jump : i < length rows → drop i rows ≡ row ∷ drop (i + 1) rows → linked (drop i rows) ≡ true → (d : ℕ) → d < row.depth → run d (drop i rows) ≡ row.skip + run d (drop (i + row.skip) rows)
-  run_jump l e links d m =
-      let rest = drop (i + 1) rows in
-      let k = skip_is rows i row l e links in
-      let g = run_past d row.depth rest (omega arith) in
-      let s : suc (run d rest) ≡ row.skip + run d (drop (run row.depth rest) rest) = omega arith in
-      ap (run d) e ∙ run_deeper d row rest m ∙ s ∙ sym (ap (λ z. row.skip + run d z) (skipped rows i row l e links))
+-- the rows behind those beneath a deeper row, measured on
+pub run_jump : (d : ℕ) (row : Row) (rest : List Row) → d < row.depth → run d (row ∷ rest) ≡ suc (run row.depth rest) + run d (drop (run row.depth rest) rest)
+run_jump d row rest m =
+    let g = run_past d row.depth rest (omega arith) in
+    let s : suc (run d rest) ≡ suc (run row.depth rest) + run d (drop (run row.depth rest) rest) = omega arith in
+    run_deeper d row rest m ∙ s
 
 -- ---- contained in a key
 
@@ -99,16 +77,19 @@ contained_way p v r h e = contained_push (take r.depth p) v r.number (contained_
 -- ---- the walk
 
 module _ (test : List ℕ → Bool) (v : List ℕ) where
-  -- where the walk stands: the numbers on its way are in v, and what is ahead of it decides
-  pub record Walk (rows : List Row) (i : ℕ) (p : List ℕ) : Type 0 where
-    pub within : i ≤ length rows
+  -- where the walk stands: the numbers on its way are in v, and the rows ahead of it decide
+  pub record Walk (rows ahead : List Row) (p : List ℕ) : Type 0 where
     pub own : contained p v ≡ true
-    pub linked : linked (drop i rows) ≡ true
-    pub shaped : shaped (length p) (drop i rows) ≡ true
-    pub found : some test (paths p (drop i rows)) ≡ some test (paths [] rows)
+    pub linked : linked ahead ≡ true
+    pub shaped : shaped (length p) ahead ≡ true
+    pub found : some test (paths p ahead) ≡ some test (paths [] rows)
 
-  pub walk_start : (rows : List Row) → linked rows ≡ true → shaped 0 rows ≡ true → Walk rows 0 []
-  walk_start rows l s = record { within = omega arith; own = refl; linked = l; shaped = s; found = refl }
+  pub walk_start : (rows : List Row) → linked rows ≡ true → shaped 0 rows ≡ true → Walk rows rows []
+  walk_start rows l s = record { own = refl; linked = l; shaped = s; found = refl }
+
+  pub walk_end : (rows ahead : List Row) (p : List ℕ) → Walk rows ahead p → length ahead ≡ 0 → some test (paths [] rows) ≡ false
+  walk_end rows [] p w h = sym w.found
+  walk_end rows (r ∷ rs) p w h = absurd (omega arith)
 
 -- ---- a subtree passed over
 
@@ -143,55 +124,50 @@ module _ (test : List ℕ → Bool) (v : List ℕ) (only : (w : List ℕ) → te
         ∙ sym (ap (λ k. some test (paths p (drop k (r ∷ rs)))) (run_stops d r rs m)))
         (cases_lt d r.depth)
 
-  module _ (rows : List Row) (i : ℕ) (p : List ℕ) (w : Walk test v rows i p) where
-    pub walk_end : length rows ≤ i → some test (paths [] rows) ≡ false
-    walk_end h = sym w.found ∙ ap (λ z. some test (paths p z)) (drop_all i rows h)
+  module _ (rows ahead : List Row) (p : List ℕ) (row : Row) (rest : List Row) (from : Walk test v rows ahead p) (e : ahead ≡ row ∷ rest) where
+    at : Walk test v rows (row ∷ rest) p
+    at = subst (λ z. Walk test v rows z p) e from
 
-    module _ (row : Row) (l : i < length rows) (e : drop i rows ≡ row ∷ drop (i + 1) rows) where
-      here : some test (paths p (row ∷ drop (i + 1) rows)) ≡ some test (paths [] rows)
-      here = sym (ap (λ z. some test (paths p z)) e) ∙ w.found
+    parts : Parts (length p) row rest
+    parts = shaped_parts (length p) row rest at.shaped
 
-      parts : Parts (length p) row (drop (i + 1) rows)
-      parts = shaped_parts (length p) row (drop (i + 1) rows) (subst (λ z. shaped (length p) z ≡ true) e w.shaped)
+    pub walk_link : row.skip ≡ suc (run row.depth rest)
+    walk_link = (linked_parts row rest at.linked).0
 
-      pub walk_deep : (row.depth ≤ length p) × (row.depth < 65)
-      walk_deep = (parts.deep, parts.few)
+    pub walk_deep : (row.depth ≤ length p) × (row.depth < 65)
+    walk_deep = (parts.deep, parts.few)
 
-      -- all beneath the row is passed over
-      pub walk_skip : among row.number v ≡ false → Walk test v rows (i + row.skip) p
-      walk_skip away =
-          let rest = drop (i + 1) rows in
-          let d = row.depth in
-          let long = length_way p row parts.deep in
-          let whole : take (suc d) (way p row) ≡ way p row = take_all (suc d) (way p row) (omega arith) in
-          let last : among row.number (way p row) ≡ true = among_append row.number (take d p) (row.number ∷ []) ∙ or_right (among row.number (take d p)) (among row.number (row.number ∷ [])) (or_left (eqb row.number row.number) false (eq-eqb row.number row.number refl)) in
-          record {
-            within = (skip_fits rows i row l e w.linked).1;
-            own = w.own;
-            linked = subst (λ z. linked z ≡ true) (drop-drop row.skip i rows) (drop_linked row.skip (drop i rows) w.linked);
-            shaped = subst (λ z. shaped (length p) z ≡ true) (sym (skipped rows i row l e w.linked)) (shaped_behind d (suc d) (length p) rest parts.behind parts.deep);
-            found = ap (λ z. some test (paths p z)) (skipped rows i row l e w.linked)
-                ∙ sym (passed row.number away row.ends (way p row) (paths (way p row) rest) last
-                ∙ skip_run row.number away d p (way p row) rest (subst (λ k. shaped k rest ≡ true) (sym long) parts.behind) (omega arith) (ap (among row.number) whole ∙ last) (way_take p row d (omega arith) parts.deep))
-                ∙ here;
-          }
+    -- all beneath the row is passed over
+    pub walk_skip : among row.number v ≡ false → (next : List Row) → next ≡ drop (run row.depth rest) rest → Walk test v rows next p
+    walk_skip away next is =
+        let d = row.depth in
+        let long = length_way p row parts.deep in
+        let whole : take (suc d) (way p row) ≡ way p row = take_all (suc d) (way p row) (omega arith) in
+        let last : among row.number (way p row) ≡ true = among_append row.number (take d p) (row.number ∷ []) ∙ or_right (among row.number (take d p)) (among row.number (row.number ∷ [])) (or_left (eqb row.number row.number) false (eq-eqb row.number row.number refl)) in
+        subst (λ z. Walk test v rows z p) (sym is) (record {
+          own = at.own;
+          linked = drop_linked (run d rest) rest (linked_parts row rest at.linked).1;
+          shaped = shaped_behind d (suc d) (length p) rest parts.behind parts.deep;
+          found = sym (passed row.number away row.ends (way p row) (paths (way p row) rest) last
+              ∙ skip_run row.number away d p (way p row) rest (subst (λ k. shaped k rest ≡ true) (sym long) parts.behind) (omega arith) (ap (among row.number) whole ∙ last) (way_take p row d (omega arith) parts.deep))
+              ∙ at.found;
+        })
 
-      -- the row is not what is looked for, and its number is in v
-      pub walk_next : among row.number v ≡ true → (row.ends ≡ true → test (way p row) ≡ false) → Walk test v rows (i + 1) (way p row)
-      walk_next has other = record {
-        within = omega arith;
-        own = contained_way p v row w.own has;
-        linked = (linked_parts row (drop (i + 1) rows) (subst (λ z. linked z ≡ true) e w.linked)).1;
-        shaped = subst (λ k. shaped k (drop (i + 1) rows) ≡ true) (sym (length_way p row parts.deep)) parts.behind;
-        found = sym (past row.ends other) ∙ here;
-      }
-        where
-          past : (b : Bool) → (b ≡ true → test (way p row) ≡ false) → some test (cond b (way p row ∷ paths (way p row) (drop (i + 1) rows)) (paths (way p row) (drop (i + 1) rows))) ≡ some test (paths (way p row) (drop (i + 1) rows))
-          past true h = ap (λ t. t || some test (paths (way p row) (drop (i + 1) rows))) (h refl)
-          past false h = refl
+    -- the row is not what is looked for, and its number is in v
+    pub walk_next : among row.number v ≡ true → (row.ends ≡ true → test (way p row) ≡ false) → Walk test v rows rest (way p row)
+    walk_next has other = record {
+      own = contained_way p v row at.own has;
+      linked = (linked_parts row rest at.linked).1;
+      shaped = subst (λ k. shaped k rest ≡ true) (sym (length_way p row parts.deep)) parts.behind;
+      found = sym (past row.ends other) ∙ at.found;
+    }
+      where
+        past : (b : Bool) → (b ≡ true → test (way p row) ≡ false) → some test (cond b (way p row ∷ paths (way p row) rest) (paths (way p row) rest)) ≡ some test (paths (way p row) rest)
+        past true h = ap (λ t. t || some test (paths (way p row) rest)) (h refl)
+        past false h = refl
 
-      -- the row is what is looked for
-      pub walk_here : row.ends ≡ true → test (way p row) ≡ true → some test (paths [] rows) ≡ true
-      walk_here ends is =
-          sym here ∙ ap (λ b. some test (cond b (way p row ∷ paths (way p row) (drop (i + 1) rows)) (paths (way p row) (drop (i + 1) rows)))) ends
-          ∙ or_left (test (way p row)) (some test (paths (way p row) (drop (i + 1) rows))) is
+    -- the row is what is looked for
+    pub walk_here : row.ends ≡ true → test (way p row) ≡ true → some test (paths [] rows) ≡ true
+    walk_here ends is =
+        sym at.found ∙ ap (λ b. some test (cond b (way p row ∷ paths (way p row) rest) (paths (way p row) rest))) ends
+        ∙ or_left (test (way p row)) (some test (paths (way p row) rest)) is

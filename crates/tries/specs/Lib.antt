@@ -1,5 +1,6 @@
 pub mod Rows
 pub mod Changes
 pub mod Trails
+pub mod Forests
 pub mod Words
 pub mod Tries

@@ -1,53 +1,93 @@
 // Questions asked of the rows of a trie.
-ghost use Rattle.std.specs.Prelude.{◌≡◌, ◌+◌, ◌-◌, ◌<◌, ◌≤◌, true, [], length, drop, Decides, slice_index, slice_set};
+ghost use Rattle.std.specs.Prelude.{◌≡◌, ◌+◌, ◌<◌, ◌≤◌, true, [], length, Decides, slice_index, slice_set};
 ghost use Rattle.keys.specs.Listed.{numbers};
 ghost use Rattle.keys.specs.Numbers.{without};
-ghost use Rattle.tries.specs.Rows.{paths, run, linked, shaped, reached, matched};
+ghost use Rattle.tries.specs.Rows.{paths, run, linked, reached, matched};
+ghost use Rattle.tries.specs.Forests.{in_use};
 ghost use Rattle.tries.specs.Changes.{Spotted};
 ghost use Rattle.tries.specs.Trails.{before};
 
+use crate::forest::Forest;
 use crate::row::Row;
 use keys::key::{Key, MAX_NUMBERS};
 
-// Whether some key in the rows has no number that this one has not. The way down takes only numbers that the key has.
-pub(crate) fn reaches(rows: &[Row], key: &Key) -> bool
-    requires linked { linked rows.now ≡ true }
-    requires shaped { shaped 0 rows.now ≡ true }
-    ensures { result ≡ reached (numbers key.now) (paths [] rows.now) }
-{
-    let mut i = 0;
-    while i < rows.len() {
-        let next = rows[i];
-        if !key.has(next.number) {
-            i += next.skip;
-        } else if next.ends {
-            return true;
-        } else {
-            i += 1;
-        }
-    }
-    false
+// A place among the rows, and how many numbers are shared with the rows before it.
+#[derive(Clone, Copy)]
+pub(crate) struct Spot {
+    pub at: usize,
+    pub depth: usize,
 }
 
-// Whether some key in the rows has just the numbers of this one.
-pub(crate) fn matches(rows: &[Row], key: Key) -> bool
-    requires linked { linked rows.now ≡ true }
-    requires shaped { shaped 0 rows.now ≡ true }
-    ensures { result ≡ matched (numbers key) (paths [] rows.now) }
-{
-    let mut left = [key; MAX_NUMBERS];
-    let mut i = 0;
-    while i < rows.len() {
-        let row = rows[i];
-        if !key.has(row.number) {
-            i += row.skip;
-        } else if follow(&mut left, key, row).is_empty() && row.ends {
-            return true;
-        } else {
-            i += 1;
+impl Forest {
+    // The rows in use.
+    fn in_use(&self) -> &[Row]
+        ensures { result.now ≡ in_use self.now }
+    {
+        &self.rows[..self.used]
+    }
+
+    // Whether some key in the rows has no number that this one has not. The way down takes only numbers that the key
+    // has.
+    pub(crate) fn reaches(&self, key: &Key) -> bool
+        ensures { result ≡ reached (numbers key.now) (paths [] (in_use self.now)) }
+    {
+        let mut ahead = self.in_use();
+        while let Some((next, rest)) = ahead.split_first() {
+            if next.leads_away(key) {
+                ahead = next.past(rest);
+            } else if next.ends {
+                return true;
+            } else {
+                ahead = rest;
+            }
+        }
+        false
+    }
+
+    // Whether some key in the rows has just the numbers of this one.
+    pub(crate) fn matches(&self, key: Key) -> bool
+        ensures { result ≡ matched (numbers key) (paths [] (in_use self.now)) }
+    {
+        let mut left = [key; MAX_NUMBERS];
+        let mut ahead = self.in_use();
+        while let Some((row, rest)) = ahead.split_first() {
+            if row.leads_away(&key) {
+                ahead = row.past(rest);
+            } else if follow(&mut left, key, *row).is_empty() && row.ends {
+                return true;
+            } else {
+                ahead = rest;
+            }
+        }
+        false
+    }
+
+    // Where the rest of the word goes: behind all that is beneath the last row that it shares. Its last number is not
+    // shared.
+    pub(crate) fn place(&self, word: &[u16]) -> Spot
+        requires some { 0 < length word.now }
+        requires short { length word.now ≤ 65 }
+        ensures { Spotted word.now (in_use self.now) result.at result.depth }
+    {
+        let rows = self.in_use();
+        let mut depth = 0;
+        let mut ahead = rows;
+        while let Some((row, rest)) = ahead.split_first() {
+            if (row.depth as usize) < depth {
+                break;
+            }
+            if shares(*row, word, depth) {
+                depth += 1;
+                ahead = rest;
+            } else {
+                ahead = row.past(rest);
+            }
+        }
+        Spot {
+            at: rows.len() - ahead.len(),
+            depth,
         }
     }
-    false
 }
 
 // What is left of the key once the numbers on the way to the row are taken away. `left` has this for each depth on the
@@ -64,53 +104,19 @@ pub(crate) fn follow(left: &mut [Key; MAX_NUMBERS], key: Key, row: Row) -> Key
     rest
 }
 
-// How many rows, from a place on, lie deeper.
-pub(crate) fn measure(rows: &[Row], from: usize, depth: u8) -> usize
-    requires place { from ≤ length rows.now }
-    requires linked { linked (drop from rows.now) ≡ true }
-    ensures { result ≡ run depth (drop from rows.now) }
+// How many rows, from the front on, lie deeper.
+pub(crate) fn measure(rows: &[Row], depth: u8) -> usize
+    requires { linked rows.now ≡ true }
+    ensures { result ≡ run depth rows.now }
 {
-    let mut i = from;
-    while i < rows.len() {
-        let row = rows[i];
+    let mut ahead = rows;
+    while let Some((row, rest)) = ahead.split_first() {
         if row.depth <= depth {
-            return i - from;
+            break;
         }
-        i += row.skip;
+        ahead = row.past(rest);
     }
-    i - from
-}
-
-// A place among the rows, and how many numbers are shared with the rows before it.
-#[derive(Clone, Copy)]
-pub(crate) struct Spot {
-    pub at: usize,
-    pub depth: usize,
-}
-
-// Where the rest of the word goes: behind all that is beneath the last row that it shares. Its last number is not shared.
-pub(crate) fn place(rows: &[Row], word: &[u16]) -> Spot
-    requires linked { linked rows.now ≡ true }
-    requires shaped { shaped 0 rows.now ≡ true }
-    requires some { 0 < length word.now }
-    requires short { length word.now ≤ 65 }
-    ensures { Spotted word.now rows.now result.at result.depth }
-{
-    let mut depth = 0;
-    let mut i = 0;
-    while i < rows.len() {
-        let row = rows[i];
-        if (row.depth as usize) < depth {
-            return Spot { at: i, depth };
-        }
-        if shares(row, word, depth) {
-            depth += 1;
-            i += 1;
-        } else {
-            i += row.skip;
-        }
-    }
-    Spot { at: i, depth }
+    rows.len() - ahead.len()
 }
 
 // Whether the row holds the word's number at the depth, and that is not its last.

@@ -17,12 +17,10 @@ pub(crate) fn release(rows: &mut [Row], key: Key) -> usize
 {
     let mut left = [key; MAX_NUMBERS];
     let mut count = 0;
-    for i in 0..rows.len() {
-        let row = rows[i];
-        let rest = follow(&mut left, key, row);
-        let ends = keeps(row, rest);
-        rows[i] = Row { ends, ..row };
-        if ends {
+    for row in rows.iter_mut() {
+        let rest = follow(&mut left, key, *row);
+        row.ends = keeps(*row, rest);
+        if row.ends {
             count += 1;
         }
     }
@@ -49,9 +47,7 @@ pub(crate) fn settle_rows(rows: &mut [Row], from: usize, upto: usize, start: usi
     ensures place { result ≤ start }
 {
     let mut begin = start;
-    let mut i = upto;
-    while i > from {
-        i -= 1;
+    for i in (from..upto).rev() {
         let row = rows[i];
         begin = settle(rows, begin, row);
     }
@@ -60,6 +56,8 @@ pub(crate) fn settle_rows(rows: &mut [Row], from: usize, upto: usize, start: usi
 
 // Puts the rows that hold the numbers of the word from a depth on before those from `start` on. The answer is where they
 // begin then.
+// Stays: one function for this and settle_rows would take a closure from the rows and a place to a row, and be longer
+// than the two loops.
 pub(crate) fn settle_word(rows: &mut [Row], word: &[u16], depth: usize, start: usize) -> usize
     requires deep { depth ≤ length word.now }
     requires short { length word.now ≤ 65 }
@@ -72,9 +70,7 @@ pub(crate) fn settle_word(rows: &mut [Row], word: &[u16], depth: usize, start: u
     ensures place { result ≤ start }
 {
     let mut begin = start;
-    let mut i = word.len();
-    while i > depth {
-        i -= 1;
+    for i in (depth..word.len()).rev() {
         begin = settle(rows, begin, sprout(word, i));
     }
     begin
@@ -91,14 +87,11 @@ fn settle(rows: &mut [Row], start: usize, row: Row) -> usize
     ensures near { start ≤ result + 1 }
     ensures place { result ≤ start }
 {
-    let below = measure(rows, start, row.depth);
+    let below = measure(&rows[start..], row.depth);
     if !row.ends && below == 0 {
         return start;
     }
-    rows[start - 1] = Row {
-        skip: 1 + below,
-        ..row
-    };
+    rows[start - 1] = row.over(below);
     start - 1
 }
 

@@ -2,65 +2,93 @@
 ghost use Rattle.std.specs.Prelude.{◌≡◌, ◌+◌, ◌-◌, ◌<◌, ◌≤◌, true, [], length, take, drop};
 ghost use Rattle.stores.specs.Holding.{Reordered};
 ghost use Rattle.keys.specs.Listed.{numbers};
-ghost use Rattle.tries.specs.Rows.{paths, linked, shaped, bearing};
-ghost use Rattle.tries.specs.Changes.{released, put, PutIn};
+ghost use Rattle.keys.specs.Numbers.{none};
+ghost use Rattle.tries.specs.Rows.{paths, shaped, bearing};
+ghost use Rattle.tries.specs.Forests.{in_use};
+ghost use Rattle.tries.specs.Words.{words};
+ghost use Rattle.tries.specs.Changes.{released, put, Spotted, PutIn};
 
-use crate::asking::place;
+use crate::asking::Spot;
 use crate::changing::{release, settle_rows, settle_word};
+use crate::forest::Forest;
 use crate::row::Row;
 use keys::key::{Key, MAX_NUMBERS};
 
-// How many rows are in use, and how many keys they hold.
-#[derive(Clone, Copy)]
-pub(crate) struct Extent {
-    pub used: usize,
-    pub size: usize,
-}
+impl Forest {
+    // Drops the keys that contain all of this one, and puts it in: at the root where it has no number, and otherwise in
+    // the rows. The answer is how many keys are held then.
+    pub(crate) fn change(&mut self, key: Key) -> usize
+        requires { self.old.used + 65 ≤ length self.old.rows.items }
+        ensures items { Reordered (put (numbers key) (paths [] (in_use self.old))) (words (none (numbers key)) (in_use self.new)) }
+        ensures size { result ≡ length (words (none (numbers key)) (in_use self.new)) }
+        ensures bearing { bearing (in_use self.new) ≡ true }
+        ensures room { length self.new.rows.items ≡ length self.old.rows.items }
+    {
+        if key.is_empty() {
+            self.used = 0;
+            1
+        } else {
+            self.exchange(key)
+        }
+    }
 
-// Drops the keys that contain all of this one, and puts it in. Rows that bear nothing any more are free again.
-pub(crate) fn exchange(rows: &mut [Row], used: usize, key: Key) -> Extent
-    requires room { used + 65 ≤ length rows.old }
-    requires linked { linked (take used rows.old) ≡ true }
-    requires shaped { shaped 0 (take used rows.old) ≡ true }
-    requires some { 0 < length (numbers key) }
-    ensures within { result.used ≤ length rows.old }
-    ensures items { Reordered (put (numbers key) (paths [] (take used rows.old))) (paths [] (take result.used rows.new)) }
-    ensures size { result.size ≡ length (paths [] (take result.used rows.new)) }
-    ensures linked { linked (take result.used rows.new) ≡ true }
-    ensures shaped { shaped 0 (take result.used rows.new) ≡ true }
-    ensures bearing { bearing (take result.used rows.new) ≡ true }
-{
-    let left = let_go(rows, used, key);
-    let mut word = [0; MAX_NUMBERS];
-    let count = key.write(&mut word);
-    let used = put_in(rows, used, &word[0..count]);
-    Extent {
-        used,
-        size: left + 1,
+    // Drops the keys in the rows that contain all of this one, and puts it in. Rows that bear nothing any more are free
+    // again. The answer is how many keys the rows hold then.
+    fn exchange(&mut self, key: Key) -> usize
+        requires room { self.old.used + 65 ≤ length self.old.rows.items }
+        requires some { 0 < length (numbers key) }
+        ensures items { Reordered (put (numbers key) (paths [] (in_use self.old))) (paths [] (in_use self.new)) }
+        ensures size { result ≡ length (paths [] (in_use self.new)) }
+        ensures bearing { bearing (in_use self.new) ≡ true }
+        ensures room { length self.new.rows.items ≡ length self.old.rows.items }
+    {
+        let left = self.let_go(key);
+        let mut numbers = [0; MAX_NUMBERS];
+        self.put_in(key.write(&mut numbers));
+        left + 1
+    }
+
+    // Lets go the keys that contain all of this one, and answers how many are left.
+    fn let_go(&mut self, key: Key) -> usize
+        ensures rows { in_use self.new ≡ released (numbers key) [] (in_use self.old) }
+        ensures count { result ≡ length (paths [] (released (numbers key) [] (in_use self.old))) }
+        ensures room { length self.new.rows.items ≡ length self.old.rows.items }
+        ensures used { self.new.used ≡ self.old.used }
+    {
+        release_used(&mut self.rows, self.used, key)
+    }
+
+    // Puts the rows of the word in.
+    fn put_in(&mut self, word: &[u16])
+        requires room { self.old.used + 65 ≤ length self.old.rows.items }
+        requires some { 0 < length word.now }
+        requires short { length word.now ≤ 65 }
+        ensures items { PutIn word.now (in_use self.old) (in_use self.new) }
+        ensures room { length self.new.rows.items ≡ length self.old.rows.items }
+    {
+        let spot = self.place(word);
+        self.used = grow(&mut self.rows, self.used, word, spot);
     }
 }
 
 // Lets go the keys in the rows in use that contain all of this one, and answers how many are left.
-fn let_go(rows: &mut [Row], used: usize, key: Key) -> usize
+fn release_used(rows: &mut [Row], used: usize, key: Key) -> usize
     requires within { used ≤ length rows.old }
     requires shaped { shaped 0 (take used rows.old) ≡ true }
     ensures rows { take used rows.new ≡ released (numbers key) [] (take used rows.old) }
     ensures count { result ≡ length (paths [] (released (numbers key) [] (take used rows.old))) }
 {
-    release(&mut rows[0..used], key)
+    release(&mut rows[..used], key)
 }
 
-// Puts the rows of the word in, and answers how many rows are in use then.
-fn put_in(rows: &mut [Row], used: usize, word: &[u16]) -> usize
+// Puts the rows of the word in at their place, and answers how many rows are in use then.
+fn grow(rows: &mut [Row], used: usize, word: &[u16], spot: Spot) -> usize
     requires room { used + 65 ≤ length rows.old }
-    requires linked { linked (take used rows.old) ≡ true }
-    requires shaped { shaped 0 (take used rows.old) ≡ true }
-    requires some { 0 < length word.now }
     requires short { length word.now ≤ 65 }
+    requires spotted { Spotted word.now (take used rows.old) spot.at spot.depth }
     ensures within { result ≤ length rows.old }
     ensures items { PutIn word.now (take used rows.old) (take result rows.new) }
 {
-    let spot = place(&rows[0..used], word);
     let end = rows.len();
     let behind = settle_rows(rows, spot.at, used, end);
     let middle = settle_word(rows, word, spot.depth, behind);

@@ -4,5 +4,6 @@
 mod asking;
 mod changing;
 mod exchanging;
+mod forest;
 pub mod row;
 pub mod trie;

@@ -5,7 +5,7 @@ use Rattle.keys.proofs.Numbers.{among_missing}
 use Rattle.keys.proofs.key.is_missing.Goals as goal
 
 pub returns-then-number-lt64 : goal.returns-then-number-lt64
-returns-then-number-lt64 c = ap not c.holds.ensures ∙ sym (among_missing c.args.set 64 c.args.number ∙ ap (λ b. b && not (has c.args.set c.args.number)) (lt-ltb c.args.number 64 (omega arith)))
+returns-then-number-lt64 c = c.lacks.ensures ∙ sym (among_missing c.args.set 64 c.args.number ∙ ap (λ b. b && not (has c.args.set c.args.number)) (lt-ltb c.args.number 64 (omega arith)))
 
 pub returns-else-number-lt64 : goal.returns-else-number-lt64
 returns-else-number-lt64 c =

@@ -1,10 +1,10 @@
-use Rattle.std.proofs.Common.{◌≡◌, ◌+◌, ◌-◌, ◌≤◌, true, length, drop}
+use Rattle.std.proofs.Common.{◌≡◌, ◌+◌, ◌≤◌, true, length}
 use Rattle.tries.specs.Rows.{run, linked}
 use Rattle.tries.proofs.asking.measure.Given as goal
 
 -- the rows so far lie deeper
-abbrev pub invariant-loop-i : goal.invariant-loop-i
-invariant-loop-i l = (l.from ≤ l.i) × (l.i ≤ length l.rows) × (linked (drop l.i l.rows) ≡ true) × (run l.depth (drop l.from l.rows) ≡ (l.i - l.from) + run l.depth (drop l.i l.rows))
+abbrev pub invariant-loop-row : goal.invariant-loop-row
+invariant-loop-row l = (length l.ahead ≤ length l.rows) × (linked l.ahead ≡ true) × (run l.depth l.rows + length l.ahead ≡ length l.rows + run l.depth l.ahead)
 
-abbrev pub decreases-loop-i : goal.decreases-loop-i
-decreases-loop-i l = length l.rows - l.i
+abbrev pub decreases-loop-row : goal.decreases-loop-row
+decreases-loop-row l = length l.ahead

@@ -6,9 +6,9 @@ use Rattle.tries.proofs.Trails.{Trail}
 use Rattle.tries.proofs.changing.release.Given as goal
 
 -- the rows so far are released, and the keys left in them counted
-abbrev pub invariant-loop-i : goal.invariant-loop-i
-invariant-loop-i l =
-    (l.rows ≡ released (numbers l.key) [] (take l.i l.initial.rows) ++ drop l.i l.initial.rows)
-    × (l.count ≡ length (paths [] (released (numbers l.key) [] (take l.i l.initial.rows))))
-    × (l.count ≤ l.i)
-    × Trail l.key l.left (after [] (take l.i l.initial.rows))
+abbrev pub invariant-loop-row : goal.invariant-loop-row
+invariant-loop-row l =
+    (l.rows ≡ released (numbers l.key) [] (take l.row-index l.initial.rows) ++ drop l.row-index l.initial.rows)
+    × (l.count ≡ length (paths [] (released (numbers l.key) [] (take l.row-index l.initial.rows))))
+    × (l.count ≤ l.row-index)
+    × Trail l.key l.left (after [] (take l.row-index l.initial.rows))

@@ -9,6 +9,3 @@ invariant-loop-i l =
     × (length l.rows ≡ length l.initial.rows)
     × (take l.i l.rows ≡ take l.i l.initial.rows)
     × (drop l.begin l.rows ≡ settled (take (l.upto - l.i) (drop l.i l.initial.rows)) (drop l.start l.initial.rows))
-
-abbrev pub decreases-loop-i : goal.decreases-loop-i
-decreases-loop-i l = l.i - l.from

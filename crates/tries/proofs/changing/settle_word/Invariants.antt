@@ -9,6 +9,3 @@ invariant-loop-i l =
     × (length l.rows ≡ length l.initial.rows)
     × (take (l.start - (length l.word - l.depth)) l.rows ≡ take (l.start - (length l.word - l.depth)) l.initial.rows)
     × (drop l.begin l.rows ≡ settled (sprouts l.word l.i (length l.word - l.i)) (drop l.start l.initial.rows))
-
-abbrev pub decreases-loop-i : goal.decreases-loop-i
-decreases-loop-i l = l.i - l.depth

@@ -1,17 +1,17 @@
-use Rattle.std.proofs.Common.{◌≡◌, ◌-◌, [], ◌++◌, length, take, drop, sym, ap, ◌∙◌, subst, arith}
+use Rattle.std.proofs.Common.{◌≡◌, ◌-◌, [], ◌++◌, length, take, drop, sym, ap, ◌∙◌, arith}
 use Rattle.std.proofs.lemmas.List.{length-take-le, take-take, drop_all}
 use Rattle.std.proofs.lemmas.Slice.{between_is}
 use Rattle.tries.specs.Rows.{linked}
-use Rattle.tries.specs.Changes.{sprouts, settled, Spotted}
+use Rattle.tries.specs.Changes.{sprouts, settled}
 use Rattle.tries.proofs.Settling.{linked_settled, settled_append, fewer_kept}
-use Rattle.tries.proofs.exchanging.put_in.Goals as goal
+use Rattle.tries.proofs.exchanging.grow.Goals as goal
 
 pub settle_rows-behind-requires : goal.settle_rows-behind-requires
 settle_rows-behind-requires c =
     let rows = c.args.rows.now in
     let r = c.requires.room in
-    let k = length-take-le (c.args.used - 0) rows (omega arith) in
-    let s = c.place-spot.ensures in
+    let k = length-take-le c.args.used rows (omega arith) in
+    let s = c.requires.spotted in
     record {
       order = omega (arith, s.within);
       place = omega arith;
@@ -24,10 +24,10 @@ settle_word-middle-requires c =
     let rows = c.args.rows.now in
     let used = c.args.used in
     let r = c.requires.room in
-    let k = length-take-le (used - 0) rows (omega arith) in
-    let s = c.place-spot.ensures in
+    let k = length-take-le used rows (omega arith) in
+    let s = c.requires.spotted in
     let b = c.settle_rows-behind.ensures in
-    let at = c.place-spot.result.at in
+    let at = c.args.spot.at in
     record {
       deep = omega (arith, s.short);
       short = c.requires.short;
@@ -42,12 +42,12 @@ settle_rows-start-requires c =
     let used = c.args.used in
     let word = c.args.word.now in
     let r = c.requires.room in
-    let k = length-take-le (used - 0) rows (omega arith) in
-    let s = c.place-spot.ensures in
+    let k = length-take-le used rows (omega arith) in
+    let s = c.requires.spotted in
     let b = c.settle_rows-behind.ensures in
     let m = c.settle_word-middle.ensures in
-    let at = c.place-spot.result.at in
-    let d = c.place-spot.result.depth in
+    let at = c.args.spot.at in
+    let d = c.args.spot.depth in
     record {
       order = omega arith;
       place = omega (arith, b.near, m.near, s.within, c.requires.short);
@@ -70,11 +70,10 @@ returns c =
     let word = c.args.word.now in
     let room = c.requires.room in
     let rs = take used rows in
-    let n : used - 0 ≡ used = omega arith in
     let k = length-take-le used rows (omega arith) in
-    let at = c.place-spot.result.at in
-    let d = c.place-spot.result.depth in
-    let s : Spotted word rs at d = subst (λ j. Spotted word (take j rows) at d) n c.place-spot.ensures in
+    let at = c.args.spot.at in
+    let d = c.args.spot.depth in
+    let s = c.requires.spotted in
     let one = c.settle_rows-behind.new.rows in
     let two = c.settle_word-middle.new.rows in
     let three = c.settle_rows-start.new.rows in
