@@ -1,6 +1,13 @@
--- The text of a state: it does not depend on the order of what is held, and a search that was granted enough has one. Assumes nothing.
-use Rattle.std.proofs.Common.{◌≡◌, ℕ, List, length, Some, None, Option, sym, refl, ap, ◌∙◌, arith}
+-- The text of a state: it does not depend on the order of what is held, a search that was granted enough has one, and it is the
+-- report of what the check's calls give. Assumes nothing.
+use Rattle.std.proofs.Common.{◌≡◌, ℕ, List, [], length, Some, None, Ok, Err, Option, Result, sym, refl, ap, ◌∙◌, arith}
 use Rattle.blocks.specs.Layout.{payload}
+use Rattle.checks.specs.View.{view}
+use Rattle.checks.specs.declared.states.Progress.{Progress}
+use Rattle.checks.specs.declared.states.Progress.TheVariants as progress
+use Rattle.checks.specs.declared.states.Matched as matched
+use Rattle.checks.specs.declared.states.Never as never-state
+use Rattle.checks.specs.declared.states.Full as full-state
 use Rattle.files.specs.declared.fault.TableFault.{TableFault}
 use Rattle.files.specs.declared.heading.Heading.{Heading}
 use Rattle.files.specs.Fronts.{fronts_of}
@@ -14,10 +21,12 @@ use Rattle.kind_shapes.proofs.PatternAccepting.{pattern_acceptance}
 use Rattle.patterns.specs.Automaton.{Automaton}
 use Rattle.patterns.specs.Formed.{Formed}
 use Rattle.patterns.specs.declared.row.Row.{Row}
-use Rattle.reports.specs.Reports.{never, report_text}
+use Rattle.reports.specs.Reports.{matches, never, full, report_text}
+use Rattle.search.specs.declared.Find.{Find}
+use Rattle.search.specs.declared.Tally.{Tally}
 use Rattle.search.specs.declared.Verdict.{Verdict}
 use Rattle.search.specs.declared.Verdict.TheVariants.{Matches, Never, Full}
-use Rattle.search.specs.Search.{State, certificate}
+use Rattle.search.specs.Search.{State, tally, sequence, certificate}
 use Rattle.search.specs.Like.{Like, holding}
 use Rattle.search.specs.Promise.{Admits}
 use Rattle.search.proofs.Orders.{certificate_like}
@@ -59,3 +68,20 @@ pub judged_text : (file : List ℕ) (n N : ℕ) → n ≡ 64 → N ≡ 1024 → 
 judged_text file n N a b e A q =
     ap (λ (B : Automaton). state_text B (ended B)) q
     ∙ sym (ap (λ (o : Option TableFault). file_text o (decoded (payload file))) (sym (ap (λ (k : ℕ). read_fault file k N) a ∙ ap (read_fault file 64) b) ∙ e))
+
+-- what a call gave and what its contract says that it gives are one
+pub same_ok : {X E : Type 0} (r : Result X E) (a b : X) → r ≡ Ok a → r ≡ Ok b → a ≡ b
+same_ok {X = X} r a b p q = ap (λ (y : Result X _). elim y as (λ _. X) [ Ok x ↦ x | Err _ ↦ a ]) (sym p ∙ q)
+
+-- the report of a check p over the table t and a store that holds h, by what its calls give
+module _ (A : Automaton) (p : Progress) (t : List (Find ℕ)) (h : List ℕ) (y : Tally) (told : y ≡ tally (view p t [])) where
+  pub matched_text : (end : matched.Matched) → p ≡ progress.Matched end → (events : List ℕ) → events ≡ sequence (pattern_shape A) (view (progress.Matched end) t [])
+      → report_text y.queries y.finds (matches events) ≡ state_text A (view p t h)
+  matched_text end e events written = rw (told, e, written) refl
+
+  pub never_text : (end : never-state.Never) → p ≡ progress.Never end → (sets : List ℕ) → sets ≡ certificate (pattern_shape A) (view (progress.Never end) t h)
+      → report_text y.queries y.finds (never sets) ≡ state_text A (view p t h)
+  never_text end e sets written = rw (told, e, written) refl
+
+  pub full_text : (end : full-state.Full) → p ≡ progress.Full end → report_text y.queries y.finds (full y.cleared) ≡ state_text A (view p t h)
+  full_text end e = rw (told, e) refl

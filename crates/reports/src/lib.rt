@@ -1,92 +1,96 @@
 // The text that a program prints of a check that has ended: the verdict, the queries and the finds, then what the
-// verdict has to show, each on a line of its own. A report is refused only for want of memory.
+// verdict has to show, each on a line of its own.
 #![tactic(auto)]
 
-ghost use Rattle.std.specs.Prelude.{◌≡◌, ◌++◌, IfOk, string_bytes, codes, OnOk};
-ghost use Rattle.reports.specs.Reports.{matches, never, full, line, lines, head_text, report_text};
+ghost use Rattle.std.specs.Prelude.{◌++◌, Some, codes};
+ghost use Rattle.reports.specs.Reports.{line, head_text, report_text};
+ghost use Rattle.reports.specs.Shown.{outcome_of, lines_of};
 
 use sets::{Event, States};
-use std::alloc::{AllocError, Global};
+use std::fmt;
 
-// The report of a check that ended in MATCHES: the length of the sequence, and its events.
-pub fn matches_report(
-    heap: Global,
-    queries: usize,
-    finds: usize,
-    events: &[Event],
-) -> Result<String, AllocError>
-    ensures { IfOk result (λ s. string_bytes s ≡ report_text queries finds (matches events.now)) }
-{
-    let mut text = head(heap, "MATCHES", queries, finds)?;
-    push_line(&mut text, "length", events.len() as u64)?;
-    push_events(&mut text, events)?;
-    Ok(text)
+// What a check ended in, with what is printed of it.
+#[derive(Clone, Copy)]
+pub enum Outcome<'a> {
+    // MATCHES, with the events of the sequence.
+    Matches(&'a [Event]),
+    // NEVER, with the sets of the certificate.
+    Never(&'a [States]),
+    // FULL, with the cleared length.
+    Full(usize),
 }
 
-// The report of a check that ended in NEVER: the sets of the certificate.
-pub fn never_report(
-    heap: Global,
-    queries: usize,
-    finds: usize,
-    sets: &[States],
-) -> Result<String, AllocError>
-    ensures { IfOk result (λ s. string_bytes s ≡ report_text queries finds (never sets.now)) }
-{
-    let mut text = head(heap, "NEVER", queries, finds)?;
-    push_sets(&mut text, sets)?;
-    Ok(text)
+// The report of a check that has ended.
+#[derive(Clone, Copy)]
+pub struct Report<'a> {
+    pub queries: usize,
+    pub finds: usize,
+    pub outcome: Outcome<'a>,
 }
 
-// The report of a check that ended in FULL: the cleared length.
-pub fn full_report(
-    heap: Global,
-    queries: usize,
-    finds: usize,
-    cleared: usize,
-) -> Result<String, AllocError>
-    ensures { IfOk result (λ s. string_bytes s ≡ report_text queries finds (full cleared)) }
-{
-    let mut text = head(heap, "FULL", queries, finds)?;
-    push_line(&mut text, "length", cleared as u64)?;
-    Ok(text)
-}
+impl fmt::Display for Report<'_> {
+    ghost output = { λ r. Some (report_text r.queries r.finds (outcome_of r.outcome)) };
 
-// The lines that every report begins with.
-fn head(heap: Global, verdict: &str, queries: usize, finds: usize) -> Result<String, AllocError>
-    ensures { IfOk result (λ s. string_bytes s ≡ head_text verdict.now queries finds) }
-{
-    let mut text = format!(in heap; "verdict {verdict}\n")?;
-    push_line(&mut text, "queries", queries as u64)?;
-    push_line(&mut text, "finds", finds as u64)?;
-    Ok(text)
-}
-
-// Adds a line for each event.
-fn push_events(text: &mut String, events: &[Event]) -> Result<(), AllocError>
-    ensures { OnOk result (string_bytes text.new ≡ string_bytes text.old ++ lines (codes "event") events.now) }
-{
-    for event in events {
-        push_line(text, "event", *event as u64)?;
+    #[tactic(auto, using(crate::proofs::Adding::lines_of_numbers))]
+    fn fmt<W: fmt::Write>(&self, f: &mut fmt::Formatter<W>) -> fmt::Result {
+        match self.outcome {
+            Outcome::Matches(events) => {
+                let head = WithLength(Head("MATCHES", self), events.len());
+                let lines = Lines("event", events);
+                write!(f, "{head}{lines}")
+            }
+            Outcome::Never(sets) => {
+                let head = Head("NEVER", self);
+                let lines = Lines("held", sets);
+                write!(f, "{head}{lines}")
+            }
+            Outcome::Full(cleared) => WithLength(Head("FULL", self), cleared).fmt(f),
+        }
     }
-    Ok(())
 }
 
-// Adds a line for each set.
-fn push_sets(text: &mut String, sets: &[States]) -> Result<(), AllocError>
-    ensures { OnOk result (string_bytes text.new ≡ string_bytes text.old ++ lines (codes "held") sets.now) }
-{
-    for set in sets {
-        push_line(text, "held", *set)?;
+// The lines that a report begins with: its verdict is this word.
+#[derive(Drop)]
+struct Head<'a>(&'a str, &'a Report<'a>);
+
+impl fmt::Display for Head<'_> {
+    ghost output = { λ h. Some (head_text h.0.now h.1.now.queries h.1.now.finds) };
+
+    #[tactic(auto, unfolding(crate::specs::Reports::head_text))]
+    fn fmt<W: fmt::Write>(&self, f: &mut fmt::Formatter<W>) -> fmt::Result {
+        let Head(verdict, report) = self;
+        let Report { queries, finds, .. } = report;
+        write!(f, "verdict {verdict}\n")?;
+        write!(f, "queries {queries}\n")?;
+        write!(f, "finds {finds}\n")
     }
-    Ok(())
 }
 
-// Adds a line: a word and a number in decimal, with a space between them.
-fn push_line(text: &mut String, word: &str, number: u64) -> Result<(), AllocError>
-    ensures { OnOk result (string_bytes text.new ≡ string_bytes text.old ++ line word.now number) }
-{
-    match write!(text, "{word} {number}\n") {
-        Ok(()) => Ok(()),
-        Err(_) => Err(AllocError),
+// These lines, and one more for this length.
+#[derive(Drop)]
+struct WithLength<'a>(Head<'a>, usize);
+
+impl fmt::Display for WithLength<'_> {
+    ghost output = { λ h. Some (head_text h.0.0.now h.0.1.now.queries h.0.1.now.finds ++ line (codes "length") h.1) };
+
+    fn fmt<W: fmt::Write>(&self, f: &mut fmt::Formatter<W>) -> fmt::Result {
+        let WithLength(head, length) = self;
+        write!(f, "{head}length {length}\n")
+    }
+}
+
+// A line for each item: this word and the item, with a space between them.
+#[derive(Drop)]
+struct Lines<'a, T>(&'a str, &'a [T]);
+
+impl<T: fmt::Display> fmt::Display for Lines<'_, T> {
+    ghost output = { λ l. lines_of T.output l.0.now l.1.now };
+
+    fn fmt<W: fmt::Write>(&self, f: &mut fmt::Formatter<W>) -> fmt::Result {
+        let Lines(word, items) = self;
+        for item in *items {
+            write!(f, "{word} {item}\n")?;
+        }
+        Ok(())
     }
 }
