@@ -34,6 +34,7 @@ pub(crate) fn end_text(
     let Ok(tally) = check.tally(pattern, table) else {
         unreachable()
     };
+    // Stays: the calls write into a list of the caller's, and how long theirs is shows only when it is written.
     let mut events = [0; TABLE_ROWS];
     let mut sets = [0; TABLE_ROWS];
     let outcome = match check {
