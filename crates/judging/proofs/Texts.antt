@@ -63,11 +63,9 @@ read_tables p old new old-rows new-rows h e f g =
     ∙ fronts_decoded p old old-rows h g
 
 -- the judgement on a file with no fault is the report on its pattern
-pub judged_text : (file : List ℕ) (n N : ℕ) → n ≡ 64 → N ≡ 1024 → read_fault file n N ≡ None → (A : Automaton) → A ≡ decoded (payload file)
-    → state_text A (ended A) ≡ judgement_text file
-judged_text file n N a b e A q =
-    ap (λ (B : Automaton). state_text B (ended B)) q
-    ∙ sym (ap (λ (o : Option TableFault). file_text o (decoded (payload file))) (sym (ap (λ (k : ℕ). read_fault file k N) a ∙ ap (read_fault file 64) b) ∙ e))
+pub judged_text : (file : List ℕ) → read_fault file 64 1024 ≡ None → (A : Automaton) → A ≡ decoded (payload file) → state_text A (ended A) ≡ judgement_text file
+judged_text file e A q =
+    ap (λ (B : Automaton). state_text B (ended B)) q ∙ sym (ap (λ (o : Option TableFault). file_text o (decoded (payload file))) e)
 
 -- what a call gave and what its contract says that it gives are one
 pub same_ok : {X E : Type 0} (r : Result X E) (a b : X) → r ≡ Ok a → r ≡ Ok b → a ≡ b

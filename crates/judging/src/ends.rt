@@ -5,13 +5,15 @@ ghost use Rattle.pattern_kinds.specs.PatternKind.{single_pattern};
 ghost use Rattle.stores.specs.Rows.{contents, room};
 ghost use Rattle.checks.specs.View.{counts_of, verdict_of, view};
 ghost use Rattle.checks.specs.Calls.{Ready};
+ghost use Rattle.reports.specs.Reports.{report_text};
+ghost use Rattle.reports.specs.Shown.{outcome_of};
 ghost use Rattle.judging.specs.Judgement.{state_text};
 
 use crate::tables::TABLE_ROWS;
 use checks::states::Progress;
 use pattern_kinds::pattern::Single;
 use reports::{Outcome, Report};
-use search::Find;
+use search::{Find, Tally};
 use sets::States;
 use std::alloc::{AllocError, Global};
 use stores::list::ListStore;
@@ -32,6 +34,7 @@ pub(crate) fn end_text(
     let Ok(tally) = check.tally(pattern, table) else {
         unreachable()
     };
+    // Stays: the calls write into a list of the caller's, and how long theirs is shows only when it is written.
     let mut events = [0; TABLE_ROWS];
     let mut sets = [0; TABLE_ROWS];
     let outcome = match check {
@@ -46,6 +49,13 @@ pub(crate) fn end_text(
         Progress::Full(_) => Outcome::Full(tally.cleared),
         Progress::Running(_) => unreachable(),
     };
+    outcome_text(heap, tally, outcome)
+}
+
+// The report of a check with these counts and this outcome.
+fn outcome_text(heap: Global, tally: Tally, outcome: Outcome) -> Result<String, AllocError>
+    ensures { IfOk result (λ s. string_bytes s ≡ report_text tally.queries tally.finds (outcome_of outcome.entry)) }
+{
     Report {
         queries: tally.queries,
         finds: tally.finds,

@@ -9,10 +9,6 @@ ghost use Rattle.judging.specs.Judgement.{judgement_text};
 ghost use Rattle.judging.specs.Meaning.{Decided};
 
 use crate::tables::judge_file;
-use patterns::questions::MAX_ROWS;
-use patterns::row;
-use patterns::row::Row;
-use sets::MAX_STATES;
 use std::alloc::{AllocError, Global};
 
 mod ends;
@@ -26,17 +22,5 @@ pub fn judgement(heap: Global, file: &[u8]) -> Result<String, AllocError>
     ensures value { IfOk result (λ s. string_bytes s ≡ judgement_text file.now) }
     ensures decided { read_fault file.now 64 1024 ≡ None → Decided (decoded (payload file.now)) }
 {
-    judged(heap, file)
-}
-
-fn judged(heap: Global, file: &[u8]) -> Result<String, AllocError>
-    ensures { IfOk result (λ s. string_bytes s ≡ judgement_text file.now) }
-{
-    let mut roots = [0u16; MAX_STATES];
-    let mut rows = [Row {
-        operation: row::FALSE,
-        left: 0,
-        right: 0,
-    }; MAX_ROWS];
-    judge_file(heap, file, &mut roots, &mut rows)
+    judge_file(heap, file)
 }

@@ -1,5 +1,5 @@
 // From a file to its pattern, and from a pattern to the end of a check.
-ghost use Rattle.std.specs.Prelude.{◌≡◌, ◌++◌, length, IfOk, string_bytes, codes};
+ghost use Rattle.std.specs.Prelude.{◌≡◌, ◌++◌, IfOk, string_bytes, codes};
 ghost use Rattle.files.specs.Lines.{refused_line_of};
 ghost use Rattle.pattern_kinds.specs.PatternKind.{single_pattern};
 ghost use Rattle.judging.specs.Judgement.{ended, state_text, judgement_text};
@@ -11,29 +11,31 @@ use files::line::refused_line;
 use files::reading::read_pattern;
 use pattern_checks::run_pattern;
 use pattern_kinds::pattern::Single;
+use patterns::questions::MAX_ROWS;
+use patterns::row;
 use patterns::row::Row;
 use scripts::{Call, Step};
 use search::Find;
+use sets::MAX_STATES;
 use std::alloc::{AllocError, Global};
 use stores::list::ListStore;
 
 // How many rows the table of finds has, and how many configurations the store can hold.
 pub(crate) const TABLE_ROWS: usize = 1_024;
 
-// The judgement on a file, with tables to read it into.
-pub(crate) fn judge_file(
-    heap: Global,
-    file: &[u8],
-    roots: &mut [u16],
-    rows: &mut [Row],
-) -> Result<String, AllocError>
-    requires roots { length roots.old ≡ 64 }
-    requires rows { length rows.old ≡ 1024 }
+// The judgement on a file.
+pub(crate) fn judge_file(heap: Global, file: &[u8]) -> Result<String, AllocError>
     ensures { IfOk result (λ s. string_bytes s ≡ judgement_text file.now) }
 {
-    match read_pattern(file, roots, rows) {
+    let mut roots = [0; MAX_STATES];
+    let mut rows = [Row {
+        operation: row::FALSE,
+        left: 0,
+        right: 0,
+    }; MAX_ROWS];
+    match read_pattern(file, &mut roots, &mut rows) {
         Err(fault) => refusal_text(heap, fault),
-        Ok(heading) => match heading.parts(roots, rows).checked() {
+        Ok(heading) => match heading.parts(&roots, &rows).checked() {
             Ok(checked) => judge_pattern(heap, &Single::new(checked.seal())),
             Err(_) => unreachable(),
         },

@@ -12,6 +12,7 @@ use patterns::row::Row;
 use sets::MAX_STATES;
 
 // Reads a pattern file into tables of 64 roots and 1,024 rows: 0 if it was read, otherwise the number of the refusal.
+// Stays: the C interface has no Result, so 0 stands for a file that was read.
 #[unsafe(no_mangle)]
 pub extern "C" fn kazhulwi_read(file: &[u8]) -> u8
     ensures { result ≡ refusal_number (read_fault file.now 64 1024) }

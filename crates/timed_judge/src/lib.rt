@@ -9,6 +9,7 @@ use std::alloc::Global;
 
 // Puts the text that is printed of a pattern file at the front of the buffer and answers its length, or answers 0 and
 // leaves the buffer as it was, if there is no memory left or the buffer is too short.
+// Stays: the C interface has no Result and no Option, so a length of 0 stands for no text.
 #[unsafe(no_mangle)]
 pub extern "C" fn kazhulwi_judge(heap: Global, file: &[u8], text: &mut [u8]) -> usize
     ensures same { result ≡ 0 → text.new ≡ text.old }

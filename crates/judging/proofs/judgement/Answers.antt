@@ -8,6 +8,6 @@ use Rattle.judging.proofs.judgement.Goals as goal
 
 pub returns : goal.returns
 returns c = record {
-  value = c.judged.ensures;
+  value = c.judge_file.ensures;
   decided = λ e. let A = decoded (payload c.args.file.now) in decided A (formed A (ap is_some (sound c.args.file.now 64 1024 e).is_pattern));
 }

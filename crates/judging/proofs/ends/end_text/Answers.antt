@@ -52,4 +52,4 @@ returns c =
           rw w.outcome-is (never_text A p t h y told w.in-Never.end w.in-Never.is _ (front_written _ _ _ ss n w.in-Ok-certificate.ensures))
       | in-Full w ↦ rw w.outcome-is (full_text A p t h y told w.in-Full.field-0 w.in-Full.is)
     ] in
-    subst (λ (text : List ℕ). IfOk c.to_string.result (λ s. string_bytes s ≡ text)) same c.to_string.ensures.ok
+    subst (λ (text : List ℕ). IfOk c.outcome_text.result (λ s. string_bytes s ≡ text)) same c.outcome_text.ensures
