@@ -1,11 +1,9 @@
 -- The search for the place of a word. Assumes nothing.
-use Rattle.std.proofs.Common.{◌≡◌, ℕ, suc, ◌+◌, ◌-◌, ◌<◌, ◌≤◌, true, List, [], ◌∷◌, ◌++◌, length, get_or, take, drop, sym, refl, ap, ◌∙◌, subst, ⊎_elim, arith, append_assoc, take-append-drop}
+use Rattle.std.proofs.Common.{◌≡◌, ℕ, suc, ◌+◌, ◌<◌, ◌≤◌, true, List, [], ◌∷◌, ◌++◌, length, get_or, take, drop, sym, refl, ap, ◌∙◌, subst, ⊎_elim, arith, append_assoc, take-append-drop}
 use Rattle.std.proofs.lemmas.Bool.{cases_lt}
-use Rattle.std.proofs.Math.Seq.{drop-append_seam}
-use Rattle.std.proofs.lemmas.List.{length-append, take_at, take_more, take-take, length-take-le}
+use Rattle.std.proofs.lemmas.List.{take_more, take-take, length-take-le}
 use Rattle.tries.specs.declared.row.Row.{Row}
 use Rattle.tries.specs.Rows.{way, after, run, linked, shaped}
-use Rattle.tries.specs.Changes.{Spotted}
 use Rattle.tries.proofs.Paths.{Parts, length_way, way_take, run_deeper, run_stops, shaped_parts, linked_parts, after_append}
 use Rattle.tries.proofs.Walks.{drop_linked}
 
@@ -18,9 +16,6 @@ pub record Search (w : List ℕ) (rows ahead : List Row) (d : ℕ) : Type 0 wher
   pub deep : d ≤ length (after [] front)
   pub linked : linked ahead ≡ true
   pub shaped : shaped (length (after [] front)) ahead ≡ true
-
-pub search_start : (w : List ℕ) (rows : List Row) → 0 < length w → linked rows ≡ true → shaped 0 rows ≡ true → Search w rows rows 0
-search_start w rows l h s = record { front = []; whole = refl; short = l; shared = refl; deep = omega arith; linked = h; shaped = s }
 
 -- the way behind the rows deeper than d shares d numbers with the way before them
 record Behind (k d : ℕ) (q : List ℕ) (rs : List Row) : Type 0 where
@@ -44,29 +39,6 @@ behind d q (r ∷ rs) h l =
     (cases_lt d r.depth)
 
 module _ (w : List ℕ) (rows ahead : List Row) (d : ℕ) (s : Search w rows ahead d) where
-  pub search_within : length ahead ≤ length rows
-  search_within = omega (arith, ap length s.whole, length-append s.front ahead)
-
-  pub search_stops : run d ahead ≡ 0 → Spotted w rows (length rows - length ahead) d
-  search_stops z =
-      let i : length s.front ≡ length rows - length ahead = omega (arith, ap length s.whole, length-append s.front ahead) in
-      let before : take (length s.front) rows ≡ s.front = ap (take (length s.front)) s.whole ∙ take_at s.front ahead (length s.front) refl in
-      let behind : drop (length s.front) rows ≡ ahead = ap (drop (length s.front)) s.whole ∙ drop-append_seam s.front ahead in
-      subst (λ j. Spotted w rows j d) i (record {
-        within = omega (arith, ap length s.whole, length-append s.front ahead);
-        short = s.short;
-        shared = ap (λ z. take d (after [] z)) before ∙ s.shared;
-        deep = omega (arith, s.deep, ap (λ z. length (after [] z)) before);
-        apart = ap (run d) behind ∙ z;
-      })
-
-  pub search_end : length ahead ≡ 0 → Spotted w rows (length rows - length ahead) d
-  search_end h = search_stops (none ahead h)
-    where
-      none : (rs : List Row) → length rs ≡ 0 → run d rs ≡ 0
-      none [] h = refl
-      none (r ∷ rs) h = absurd (omega arith)
-
   module _ (row : Row) (rest : List Row) (e : ahead ≡ row ∷ rest) where
     abbrev before : List ℕ
     before = after [] s.front
@@ -76,12 +48,6 @@ module _ (w : List ℕ) (rows ahead : List Row) (d : ℕ) (s : Search w rows ahe
 
     links : (row.skip ≡ suc (run row.depth rest)) × (linked rest ≡ true)
     links = linked_parts row rest (subst (λ z. linked z ≡ true) e s.linked)
-
-    pub search_link : row.skip ≡ suc (run row.depth rest)
-    search_link = links.0
-
-    pub search_here : row.depth < d → Spotted w rows (length rows - length ahead) d
-    search_here m = search_stops (ap (run d) e ∙ run_stops d row rest (omega arith))
 
     -- one number more is shared
     pub search_next : row.depth ≡ d → d + 1 < length w → row.number ≡ get_or w d 0 → Search w rows rest (d + 1)

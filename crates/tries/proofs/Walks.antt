@@ -84,13 +84,6 @@ module _ (test : List ℕ → Bool) (v : List ℕ) where
     pub shaped : shaped (length p) ahead ≡ true
     pub found : some test (paths p ahead) ≡ some test (paths [] rows)
 
-  pub walk_start : (rows : List Row) → linked rows ≡ true → shaped 0 rows ≡ true → Walk rows rows []
-  walk_start rows l s = record { own = refl; linked = l; shaped = s; found = refl }
-
-  pub walk_end : (rows ahead : List Row) (p : List ℕ) → Walk rows ahead p → length ahead ≡ 0 → some test (paths [] rows) ≡ false
-  walk_end rows [] p w h = sym w.found
-  walk_end rows (r ∷ rs) p w h = absurd (omega arith)
-
 -- ---- a subtree passed over
 
 module _ (test : List ℕ → Bool) (v : List ℕ) (only : (w : List ℕ) → test w ≡ true → contained w v ≡ true) where
@@ -130,9 +123,6 @@ module _ (test : List ℕ → Bool) (v : List ℕ) (only : (w : List ℕ) → te
 
     parts : Parts (length p) row rest
     parts = shaped_parts (length p) row rest at.shaped
-
-    pub walk_link : row.skip ≡ suc (run row.depth rest)
-    walk_link = (linked_parts row rest at.linked).0
 
     pub walk_deep : (row.depth ≤ length p) × (row.depth < 65)
     walk_deep = (parts.deep, parts.few)
