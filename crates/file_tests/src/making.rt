@@ -21,25 +21,18 @@ pub(crate) const LATCH: [u8; 38] = [
 // Puts the check of a block's first 508 bytes behind them.
 pub(crate) fn seal(block: &mut [u8; 512]) {
     let mut sum: u32 = 0;
-    for i in 0..508usize {
-        sum = sum.wrapping_add((i as u32 + 1) * block[i] as u32);
+    for (i, byte) in block[..508].iter().enumerate() {
+        sum = sum.wrapping_add((i as u32 + 1) * u32::from(*byte));
     }
-    let check = sum.to_le_bytes();
-    block[508] = check[0];
-    block[509] = check[1];
-    block[510] = check[2];
-    block[511] = check[3];
+    block[508..].copy_from_slice(&sum.to_le_bytes());
 }
 
 // The one block of a payload of at most 504 bytes.
 pub(crate) fn one_block(payload: &[u8]) -> [u8; 512] {
     let mut block = [0; 512];
     let used = payload.len().min(504);
-    for i in 0..used {
-        block[4 + i] = payload[i];
-    }
-    block[2] = (used % 256) as u8;
-    block[3] = (used / 256) as u8;
+    block[2..4].copy_from_slice(&(used as u16).to_le_bytes());
+    block[4..4 + used].copy_from_slice(&payload[..used]);
     seal(&mut block);
     block
 }

@@ -15,10 +15,7 @@ fn latch_is_written(rt: HostRuntime) -> Result<(), Fail> {
         Ok(len) => assert_eq!(rt; len, 512),
         Err(fault) => is(&rt, fault, 0, 0)?,
     }
-    let file = one_block(&LATCH);
-    for i in 0..512usize {
-        assert_eq!(rt; buffer[i], file[i]);
-    }
+    assert_eq!(rt; &buffer[..512], one_block(&LATCH).as_slice());
     assert_eq!(rt; buffer[512], 9);
     Ok(())
 }

@@ -1,8 +1,7 @@
 -- Lists read part by part.
-use Rattle.std.proofs.Common.{◌≡◌, ℕ, zero, suc, ◌+◌, ◌-◌, ◌*◌, ◌<◌, ◌≤◌, min, Bool, true, false, cond, ltb, Some, None, refl, List, [], ◌∷◌, ◌++◌, length, get_or, take, drop, set, sym, ap, ◌∙◌, ⊎_elim, add_comm, mul-suc, arith}
-use Rattle.std.proofs.lemmas.List.{drop-drop, drop_more, set_at, append_assoc, take_all, take_at}
+use Rattle.std.proofs.Common.{◌≡◌, ℕ, zero, suc, ◌+◌, ◌-◌, ◌*◌, ◌<◌, ◌≤◌, Bool, true, false, cond, ltb, Some, None, refl, List, [], ◌∷◌, ◌++◌, length, get_or, drop, set, sym, ap, ◌∙◌, add_comm, mul-suc, arith}
+use Rattle.std.proofs.lemmas.List.{drop-drop, drop_more, set_at, append_assoc, take_at}
 use Rattle.std.proofs.lemmas.Nat.{mul-le}
-use Rattle.std.proofs.lemmas.Bool.{cases_lt}
 use Rattle.std.proofs.lemmas.Bool.Decides.{nat_tests}
 use Rattle.patterns.specs.declared.row.Row.{Row}
 use Rattle.patterns.specs.Automaton.{Automaton}
@@ -88,13 +87,6 @@ pub same_tables : (m s f : ℕ) {R R' : List ℕ} {T T' : List Row} → R ≡ R'
 same_tables m s f {R} {R'} {T} {T'} e g =
     ap (λ (x : List ℕ). record { signals = m; start = s; finals = f; roots = x; rows = T }) e
     ∙ ap (λ (x : List Row). record { signals = m; start = s; finals = f; roots = R'; rows = x }) g
-
--- a front of at most n entries, as the checker reads `&xs[0..m]`
-pub front_part : {X : Type 0} (xs : List X) (n m : ℕ) → m ≡ min n (length xs) → take (m - 0) xs ≡ take n xs
-front_part xs n m e = ⊎_elim
-    (λ (h : n < length xs). let z : m - 0 ≡ n = omega arith in ap (λ (k : ℕ). take k xs) z)
-    (λ (h : length xs ≤ n). take_all (m - 0) xs (omega arith) ∙ sym (take_all n xs (omega arith)))
-    (cases_lt n (length xs))
 
 -- the pattern in the fronts of tables that were read into is the file's
 pub fronts_decoded : (p t : List ℕ) (u : List Row) (h : Heading) → h ≡ heading_of p
