@@ -2,6 +2,7 @@
 ghost use Rattle.inspector_tests.specs.Building.{below, capped, building_shape};
 ghost use Rattle.inspector_tests.specs.BuildingLaws.{building_laws};
 ghost use Rattle.std.specs.Prelude.{◌≡◌};
+ghost use Rattle.std.specs.List.{slice_get};
 
 use kinds::{Kind, Move};
 use sets::Event;
@@ -52,6 +53,7 @@ impl<'a> Kind for Building<'a> {
     }
 
     fn first(&self, i: usize) -> Option<Cell> {
+        // Stays: `get` with `map` leaves the goal open, since what the closure makes of the cell isn't seen as `capped`.
         if i < self.firsts.len() {
             let cell = self.firsts[i];
             Some(cap(cell.room, cell.level as u64, self.top))
@@ -65,10 +67,9 @@ impl<'a> Kind for Building<'a> {
     }
 
     fn event(&self, k: Move) -> Event {
-        if k < self.steps.len() as u64 {
-            self.steps[k as usize].event
-        } else {
-            0
+        match self.step(k) {
+            Some(step) => step.event,
+            None => 0,
         }
     }
 
@@ -77,13 +78,25 @@ impl<'a> Kind for Building<'a> {
     }
 
     fn back(&self, k: Move, y: Cell) -> Option<Cell> {
-        if k < self.steps.len() as u64 {
-            let step = self.steps[k as usize];
-            if is_below(step.into, y) {
-                return Some(cap(step.out_of, y.level as u64 + step.raise as u64, self.top));
-            }
+        let step = self.step(k)?;
+        if is_below(step.into, y) {
+            Some(cap(
+                step.out_of,
+                u64::from(y.level) + u64::from(step.raise),
+                self.top,
+            ))
+        } else {
+            None
         }
-        None
+    }
+}
+
+impl<'a> Building<'a> {
+    // The step that has number k, and none where there are no more than k.
+    fn step(&self, k: Move) -> Option<Step>
+        ensures { result ≡ slice_get self.now.steps.now k }
+    {
+        self.steps.get(k as usize).copied()
     }
 }
 
@@ -97,12 +110,8 @@ fn is_below(x: Cell, y: Cell) -> bool
 fn cap(room: u32, level: u64, top: u32) -> Cell
     ensures { result ≡ capped room level top }
 {
-    if level < top as u64 {
-        Cell {
-            room,
-            level: level as u32,
-        }
-    } else {
-        Cell { room, level: top }
+    Cell {
+        room,
+        level: level.min(u64::from(top)) as u32,
     }
 }
