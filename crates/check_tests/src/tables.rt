@@ -1,22 +1,21 @@
 // Patterns worked out by hand, beside LATCH.
 use patterns::parts::Parts;
-use patterns::row;
-use patterns::row::Row;
+use patterns::row::{Operation, Row};
 
 // Signal 0, state 0, and both.
 static ROWS: [Row; 3] = [
     Row {
-        operation: row::SIGNAL,
+        operation: Operation::Signal as u8,
         left: 0,
         right: 0,
     },
     Row {
-        operation: row::STATE,
+        operation: Operation::State as u8,
         left: 0,
         right: 0,
     },
     Row {
-        operation: row::AND,
+        operation: Operation::And as u8,
         left: 0,
         right: 1,
     },

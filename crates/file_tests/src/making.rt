@@ -1,16 +1,9 @@
 // Files made by hand, byte by byte, and what reading them gives.
 use files::fault::TableFault;
 use files::reading::read_pattern;
-use patterns::row;
 use patterns::row::Row;
 use std::process::Abort;
 use std::test::Fail;
-
-pub(crate) const ZERO: Row = Row {
-    operation: row::FALSE,
-    left: 0,
-    right: 0,
-};
 
 // LATCH's payload.
 pub(crate) const LATCH: [u8; 38] = [
@@ -55,7 +48,7 @@ pub(crate) fn is(rt: &impl Abort, fault: TableFault, number: u8, place: usize) -
 // Reading into tables of 64 roots and 1,024 rows is refused so.
 pub(crate) fn refused(rt: &impl Abort, file: &[u8], number: u8, place: usize) -> Result<(), Fail> {
     let mut roots = [7; 64];
-    let mut rows = [ZERO; 1024];
+    let mut rows = [Row::default(); 1024];
     match read_pattern(file, &mut roots, &mut rows) {
         Ok(_) => Err(Fail::new("the file was read")),
         Err(fault) => is(rt, fault, number, place),

@@ -2,6 +2,7 @@
 use crate::making::*;
 use files::matching::file_accepts;
 use files::reading::read_pattern;
+use patterns::row::Row;
 use std::process::Abort;
 use std::test::Fail;
 
@@ -11,7 +12,7 @@ fn latch(rt: HostRuntime) -> Result<(), Fail> {
     assert_eq!(rt; file[2], 38);
     assert_eq!(rt; file[508] as u32 + 256 * file[509] as u32, 566);
     let mut roots = [7; 3];
-    let mut rows = [ZERO; 4];
+    let mut rows = [Row::default(); 4];
     match read_pattern(&file, &mut roots, &mut rows) {
         Ok(heading) => {
             assert_eq!(rt; heading.states, 2);
@@ -36,7 +37,7 @@ fn latch(rt: HostRuntime) -> Result<(), Fail> {
 fn accepts(rt: HostRuntime) -> Result<(), Fail> {
     let file = one_block(&LATCH);
     let mut roots = [7; 2];
-    let mut rows = [ZERO; 3];
+    let mut rows = [Row::default(); 3];
     match file_accepts(&file, &[3, 1, 0], &mut roots, &mut rows) {
         Ok(answer) => assert!(rt; answer),
         Err(fault) => is(&rt, fault, 0, 0)?,
@@ -54,7 +55,7 @@ fn accepts(rt: HostRuntime) -> Result<(), Fail> {
 fn room(rt: &impl Abort, roots: usize, rows: usize, number: u8) -> Result<(), Fail> {
     let file = one_block(&LATCH);
     let mut all_roots = [7; 4];
-    let mut all_rows = [ZERO; 4];
+    let mut all_rows = [Row::default(); 4];
     if roots > 4 || rows > 4 {
         return Err(Fail::new("tables of four at most"));
     }
@@ -171,7 +172,7 @@ fn two_faults(rt: HostRuntime) -> Result<(), Fail> {
     refused(&rt, &one_block(&payload), 26, 0)?;
     // the tables before their room
     let mut roots = [7; 1];
-    let mut rows = [ZERO; 1];
+    let mut rows = [Row::default(); 1];
     match read_pattern(&latch_with(3, 9), &mut roots, &mut rows) {
         Ok(_) => Err(Fail::new("the file was read")),
         Err(fault) => is(&rt, fault, 2, 0),

@@ -4,8 +4,7 @@ use files::reading::read_pattern;
 use files::writing::write_pattern;
 use patterns::examples::latch;
 use patterns::parts::Parts;
-use patterns::row;
-use patterns::row::Row;
+use patterns::row::{Operation, Row};
 use std::test::Fail;
 
 #[test]
@@ -57,12 +56,12 @@ fn two_faults(rt: HostRuntime) -> Result<(), Fail> {
 fn the_largest_pattern(rt: HostRuntime) -> Result<(), Fail> {
     let roots = [1023; 64];
     let mut rows = [Row {
-        operation: row::SIGNAL,
+        operation: Operation::Signal as u8,
         left: 15,
         right: 0,
     }; 1024];
     rows[1023] = Row {
-        operation: row::AND,
+        operation: Operation::And as u8,
         left: 1022,
         right: 1021,
     };
@@ -83,7 +82,7 @@ fn the_largest_pattern(rt: HostRuntime) -> Result<(), Fail> {
         Err(fault) => is(&rt, fault, 0, 0)?,
     }
     let mut roots_read = [0; 64];
-    let mut rows_read = [ZERO; 1024];
+    let mut rows_read = [Row::default(); 1024];
     match read_pattern(&buffer, &mut roots_read, &mut rows_read) {
         Ok(heading) => {
             assert_eq!(rt; heading.states, 64);
@@ -101,7 +100,7 @@ fn the_largest_pattern(rt: HostRuntime) -> Result<(), Fail> {
 #[test]
 fn states_past_the_limit(rt: HostRuntime) -> Result<(), Fail> {
     let roots = [0; 65];
-    let rows = [ZERO];
+    let rows = [Row::default()];
     let mut buffer = [0; 512];
     let parts = Parts {
         signals: 0,

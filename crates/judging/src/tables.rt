@@ -12,7 +12,6 @@ use files::reading::read_pattern;
 use pattern_checks::run_pattern;
 use pattern_kinds::pattern::Single;
 use patterns::questions::MAX_ROWS;
-use patterns::row;
 use patterns::row::Row;
 use scripts::{Call, Step};
 use search::Find;
@@ -28,11 +27,7 @@ pub(crate) fn judge_file(heap: Global, file: &[u8]) -> Result<String, AllocError
     ensures { IfOk result (λ s. string_bytes s ≡ judgement_text file.now) }
 {
     let mut roots = [0; MAX_STATES];
-    let mut rows = [Row {
-        operation: row::FALSE,
-        left: 0,
-        right: 0,
-    }; MAX_ROWS];
+    let mut rows = [Row::default(); MAX_ROWS];
     match read_pattern(file, &mut roots, &mut rows) {
         Err(fault) => refusal_text(heap, fault),
         Ok(heading) => match heading.parts(&roots, &rows).checked() {

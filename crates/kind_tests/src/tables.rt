@@ -1,23 +1,22 @@
 // Patterns worked out by hand, beside LATCH.
 use patterns::parts::Parts;
-use patterns::row;
-use patterns::row::Row;
+use patterns::row::{Operation, Row};
 
 static STUCK_ROOTS: [u16; 1] = [2];
 
 static STUCK_ROWS: [Row; 3] = [
     Row {
-        operation: row::SIGNAL,
+        operation: Operation::Signal as u8,
         left: 0,
         right: 0,
     },
     Row {
-        operation: row::STATE,
+        operation: Operation::State as u8,
         left: 0,
         right: 0,
     },
     Row {
-        operation: row::AND,
+        operation: Operation::And as u8,
         left: 0,
         right: 1,
     },
@@ -38,52 +37,52 @@ static DIFFERENCE_ROOTS: [u16; 5] = [2, 0, 8, 4, 9];
 
 static DIFFERENCE_ROWS: [Row; 10] = [
     Row {
-        operation: row::SIGNAL,
+        operation: Operation::Signal as u8,
         left: 0,
         right: 0,
     },
     Row {
-        operation: row::STATE,
+        operation: Operation::State as u8,
         left: 1,
         right: 0,
     },
     Row {
-        operation: row::AND,
+        operation: Operation::And as u8,
         left: 0,
         right: 1,
     },
     Row {
-        operation: row::SIGNAL,
+        operation: Operation::Signal as u8,
         left: 0,
         right: 0,
     },
     Row {
-        operation: row::NOT,
+        operation: Operation::Not as u8,
         left: 3,
         right: 0,
     },
     Row {
-        operation: row::FALSE,
+        operation: Operation::False as u8,
         left: 0,
         right: 0,
     },
     Row {
-        operation: row::STATE,
+        operation: Operation::State as u8,
         left: 3,
         right: 0,
     },
     Row {
-        operation: row::FALSE,
+        operation: Operation::False as u8,
         left: 0,
         right: 0,
     },
     Row {
-        operation: row::OR,
+        operation: Operation::Or as u8,
         left: 4,
         right: 6,
     },
     Row {
-        operation: row::AND,
+        operation: Operation::And as u8,
         left: 2,
         right: 8,
     },
@@ -104,7 +103,7 @@ pub(crate) fn difference() -> Parts<'static> {
 static WIDE_ROOTS: [u16; 1] = [0];
 
 static WIDE_ROWS: [Row; 1] = [Row {
-    operation: row::SIGNAL,
+    operation: Operation::Signal as u8,
     left: 15,
     right: 0,
 }];

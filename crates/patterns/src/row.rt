@@ -50,21 +50,6 @@ impl From<Operation> for u8 {
     }
 }
 
-// The numbers of the operations.
-pub const FALSE: u8 = Operation::False as u8;
-
-pub const TRUE: u8 = Operation::True as u8;
-
-pub const STATE: u8 = Operation::State as u8;
-
-pub const SIGNAL: u8 = Operation::Signal as u8;
-
-pub const AND: u8 = Operation::And as u8;
-
-pub const OR: u8 = Operation::Or as u8;
-
-pub const NOT: u8 = Operation::Not as u8;
-
 // Stays: (a) a table is the caller's and may hold any number, which is refused under 4, so the operation is a `u8`.
 #[derive(Clone, Copy, PartialEq, Eq, Debug, Default)]
 pub struct Row {

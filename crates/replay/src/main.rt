@@ -5,7 +5,6 @@ use files::line::refused_line;
 use files::matching::file_accepts;
 use files::reading::MAX_FILE;
 use patterns::questions::MAX_ROWS;
-use patterns::row;
 use patterns::row::Row;
 use sets::{Event, MAX_STATES};
 use std::env;
@@ -23,11 +22,7 @@ fn run(rt: &HostRuntime) -> anyhow::Result<()> {
     rt.stdin().take(INPUT).read_to_end(&mut file)?;
     let events = read_events(rt)?;
     let mut roots = [0u16; MAX_STATES];
-    let mut rows = [Row {
-        operation: row::FALSE,
-        left: 0,
-        right: 0,
-    }; MAX_ROWS];
+    let mut rows = [Row::default(); MAX_ROWS];
     match file_accepts(&file, &events, &mut roots, &mut rows) {
         Ok(true) => println!(rt; "accepted")?,
         Ok(false) => println!(rt; "rejected")?,

@@ -7,7 +7,6 @@ ghost use Rattle.timed.specs.Numbers.{refusal_number};
 
 use files::reading::read_pattern;
 use patterns::questions::MAX_ROWS;
-use patterns::row;
 use patterns::row::Row;
 use sets::MAX_STATES;
 
@@ -18,11 +17,7 @@ pub extern "C" fn kazhulwi_read(file: &[u8]) -> u8
     ensures { result ≡ refusal_number (read_fault file.now 64 1024) }
 {
     let mut roots = [0; MAX_STATES];
-    let mut rows = [Row {
-        operation: row::FALSE,
-        left: 0,
-        right: 0,
-    }; MAX_ROWS];
+    let mut rows = [Row::default(); MAX_ROWS];
     match read_pattern(file, &mut roots, &mut rows) {
         Ok(_) => 0,
         Err(fault) => fault.number(),

@@ -4,24 +4,23 @@ ghost use Rattle.patterns.specs.Automaton.{read};
 ghost use Rattle.verdicts.specs.Worked.{stuck, Worked};
 
 use patterns::parts::Parts;
-use patterns::row;
-use patterns::row::Row;
+use patterns::row::{Operation, Row};
 
 static STUCK_ROOTS: [u16; 1] = [2];
 
 static STUCK_ROWS: [Row; 3] = [
     Row {
-        operation: row::SIGNAL,
+        operation: Operation::Signal as u8,
         left: 0,
         right: 0,
     },
     Row {
-        operation: row::STATE,
+        operation: Operation::State as u8,
         left: 0,
         right: 0,
     },
     Row {
-        operation: row::AND,
+        operation: Operation::And as u8,
         left: 0,
         right: 1,
     },

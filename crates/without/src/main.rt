@@ -10,7 +10,6 @@ use files::writing::write_pattern;
 use pairs::line::pair_line;
 use pairs::reading::pair_files;
 use patterns::questions::MAX_ROWS;
-use patterns::row;
 use patterns::row::Row;
 use sets::MAX_STATES;
 use std::alloc::Global;
@@ -39,11 +38,7 @@ fn write_pair(rt: &HostRuntime, later: &str, earlier: &str, target: &str) -> any
     let later_file = read_front(rt.alloc(), File::open(rt, later)?)?;
     let earlier_file = read_front(rt.alloc(), File::open(rt, earlier)?)?;
     let mut roots = [0u16; MAX_STATES];
-    let mut rows = [Row {
-        operation: row::FALSE,
-        left: 0,
-        right: 0,
-    }; MAX_ROWS];
+    let mut rows = [Row::default(); MAX_ROWS];
     match pair_files(&later_file, &earlier_file, &mut roots, &mut rows) {
         Ok(heading) => {
             let mut buffer = [0u8; MAX_FILE];
