@@ -47,12 +47,12 @@ pub fn inspect_joint<'a>(
     examine_joint(parts, model, list)
 }
 
+// Stays: one generic function over both kinds of tables would need a trait that names each clause by a ghost member.
 fn examine_pattern(parts: Parts, list: &[States]) -> Result<Inspection, InspectionFault>
     ensures { result ≡ pattern_inspected (read_pattern parts.entry) list.now }
 {
     let pattern = parts.checked()?.seal();
-    let inspection = inspect(&Single::new(pattern), list)?;
-    Ok(inspection)
+    Ok(inspect(&Single::new(pattern), list)?)
 }
 
 fn examine_joint<'a>(
@@ -67,6 +67,5 @@ fn examine_joint<'a>(
         model,
     };
     let joint = tables.checked()?.seal();
-    let inspection = inspect(&joint, list)?;
-    Ok(inspection)
+    Ok(inspect(&joint, list)?)
 }
