@@ -6,59 +6,58 @@ ghost use Rattle.patterns.specs.Automaton.{read};
 ghost use Rattle.pair_cases.specs.Cases.{pair_tables_of, Worked};
 
 use patterns::parts::Parts;
-use patterns::row;
-use patterns::row::Row;
+use patterns::row::{Operation, Row};
 
 static ROOTS: [u16; 5] = [2, 0, 8, 4, 9];
 
 static ROWS: [Row; 10] = [
     Row {
-        operation: row::SIGNAL,
+        operation: Operation::Signal as u8,
         left: 0,
         right: 0,
     },
     Row {
-        operation: row::STATE,
+        operation: Operation::State as u8,
         left: 1,
         right: 0,
     },
     Row {
-        operation: row::AND,
+        operation: Operation::And as u8,
         left: 0,
         right: 1,
     },
     Row {
-        operation: row::SIGNAL,
+        operation: Operation::Signal as u8,
         left: 0,
         right: 0,
     },
     Row {
-        operation: row::NOT,
+        operation: Operation::Not as u8,
         left: 3,
         right: 0,
     },
     Row {
-        operation: row::FALSE,
+        operation: Operation::False as u8,
         left: 0,
         right: 0,
     },
     Row {
-        operation: row::STATE,
+        operation: Operation::State as u8,
         left: 3,
         right: 0,
     },
     Row {
-        operation: row::FALSE,
+        operation: Operation::False as u8,
         left: 0,
         right: 0,
     },
     Row {
-        operation: row::OR,
+        operation: Operation::Or as u8,
         left: 4,
         right: 6,
     },
     Row {
-        operation: row::AND,
+        operation: Operation::And as u8,
         left: 2,
         right: 8,
     },

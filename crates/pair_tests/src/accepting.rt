@@ -2,29 +2,27 @@
 use crate::making::*;
 use pairs::tables::pair_tables;
 use patterns::examples::latch;
-use patterns::row;
+use patterns::row::{Operation, Row};
 use std::test::Fail;
 
 #[test]
 fn latch_without_latch(rt: HostRuntime) -> Result<(), Fail> {
     let mut roots = [7; 6];
-    let mut rows = [ZERO; 11];
+    let mut rows = [Row::default(); 11];
     rows[10].left = 7;
     let later = checked(latch())?.seal();
-    match pair_tables(&later, &later, &mut roots, &mut rows) {
-        Ok(heading) => {
-            assert_eq!(rt; heading.states, 5);
-            assert_eq!(rt; heading.signals, 1);
-            assert_eq!(rt; heading.start, 4);
-            assert_eq!(rt; heading.rows, 10);
-            assert_eq!(rt; heading.finals, 12);
-        }
-        Err(_) => Err(Fail::new("the pair is refused"))?,
-    }
+    let heading = pair_tables(&later, &later, &mut roots, &mut rows).map_err(|_| Fail::new(
+        "the pair is refused",
+    ))?;
+    assert_eq!(rt; heading.states, 5);
+    assert_eq!(rt; heading.signals, 1);
+    assert_eq!(rt; heading.start, 4);
+    assert_eq!(rt; heading.rows, 10);
+    assert_eq!(rt; heading.finals, 12);
     assert_eq!(rt; roots[2], 8);
     assert_eq!(rt; roots[4], 9);
-    assert_eq!(rt; rows[4].operation, row::NOT);
-    assert_eq!(rt; rows[8].operation, row::OR);
+    assert_eq!(rt; rows[4].operation, Operation::Not as u8);
+    assert_eq!(rt; rows[8].operation, Operation::Or as u8);
     // what lies behind stays
     assert_eq!(rt; roots[5], 7);
     assert_eq!(rt; rows[10].left, 7);

@@ -2,16 +2,9 @@
 use pairs::tables::pair_tables;
 use patterns::parts::{Checked, Parts};
 use patterns::questions::MAX_ROWS;
-use patterns::row;
-use patterns::row::Row;
+use patterns::row::{Operation, Row};
 use sets::MAX_STATES;
 use std::test::Fail;
-
-pub(crate) const ZERO: Row = Row {
-    operation: row::FALSE,
-    left: 0,
-    right: 0,
-};
 
 static FIRST_ROOT: [u16; 1] = [0];
 
@@ -19,30 +12,30 @@ static LAST_ROOT: [u16; 1] = [2];
 
 static STUCK_ROWS: [Row; 3] = [
     Row {
-        operation: row::SIGNAL,
+        operation: Operation::Signal as u8,
         left: 0,
         right: 0,
     },
     Row {
-        operation: row::STATE,
+        operation: Operation::State as u8,
         left: 0,
         right: 0,
     },
     Row {
-        operation: row::AND,
+        operation: Operation::And as u8,
         left: 0,
         right: 1,
     },
 ];
 
 static SECOND_SIGNAL: [Row; 1] = [Row {
-    operation: row::SIGNAL,
+    operation: Operation::Signal as u8,
     left: 1,
     right: 0,
 }];
 
 static TRUE_ROWS: [Row; 1] = [Row {
-    operation: row::TRUE,
+    operation: Operation::True as u8,
     left: 0,
     right: 0,
 }];
@@ -81,40 +74,42 @@ pub(crate) fn second_on() -> Parts<'static> {
 }
 
 pub(crate) fn checked<'a>(parts: Parts<'a>) -> Result<Checked<'a>, Fail> {
-    match parts.checked() {
-        Ok(checked) => Ok(checked),
-        Err(_) => Err(Fail::new("the parts are refused")),
-    }
+    parts
+        .checked()
+        .map_err(|_| Fail::new("the parts are refused"))
 }
 
 // Whether "later without earlier" accepts the events.
 pub(crate) fn accepts(later: Parts, earlier: Parts, events: &[u16]) -> Result<bool, Fail> {
     let mut roots = [0; MAX_STATES];
-    let mut rows = [ZERO; MAX_ROWS];
+    let mut rows = [Row::default(); MAX_ROWS];
     let later = checked(later)?.seal();
     let earlier = checked(earlier)?.seal();
-    match pair_tables(&later, &earlier, &mut roots, &mut rows) {
-        Ok(heading) => match heading.parts(&roots, &rows).accepts(events) {
-            Ok(answer) => Ok(answer),
-            Err(_) => Err(Fail::new("the result is no pattern")),
-        },
-        Err(_) => Err(Fail::new("the pair is refused")),
-    }
+    let heading = pair_tables(&later, &earlier, &mut roots, &mut rows).map_err(|_| Fail::new(
+        "the pair is refused",
+    ))?;
+    heading
+        .parts(&roots, &rows)
+        .accepts(events)
+        .map_err(|_| Fail::new("the result is no pattern"))
 }
 
-// The number that refuses the pair in tables of so many roots and rows, or 0.
-pub(crate) fn refusal(later: Parts, earlier: Parts, roots: usize, rows: usize) -> Result<u8, Fail> {
+// The number that refuses the pair in tables of so many roots and rows, if it is refused.
+pub(crate) fn refusal(
+    later: Parts,
+    earlier: Parts,
+    roots: usize,
+    rows: usize,
+) -> Result<Option<u8>, Fail> {
     let mut root_table = [0; MAX_STATES];
-    let mut row_table = [ZERO; MAX_ROWS];
+    let mut row_table = [Row::default(); MAX_ROWS];
     let later = checked(later)?.seal();
     let earlier = checked(earlier)?.seal();
-    match pair_tables(
+    let made = pair_tables(
         &later,
         &earlier,
-        &mut root_table[0..roots.min(MAX_STATES)],
-        &mut row_table[0..rows.min(MAX_ROWS)],
-    ) {
-        Ok(_) => Ok(0),
-        Err(fault) => Ok(fault.number()),
-    }
+        &mut root_table[..roots.min(MAX_STATES)],
+        &mut row_table[..rows.min(MAX_ROWS)],
+    );
+    Ok(made.err().map(|fault| fault.number()))
 }

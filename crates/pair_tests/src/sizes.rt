@@ -18,14 +18,14 @@ fn plain<'a>(roots: &'a [u16], rows: &'a [Row]) -> Parts<'a> {
 #[test]
 fn states(rt: HostRuntime) -> Result<(), Fail> {
     let roots = [0; 32];
-    let rows = [ZERO; 1];
+    let rows = [Row::default(); 1];
     assert_eq!(rt;
         refusal(plain(&roots[0..31], &rows), plain(&roots, &rows), 64, 1024)?,
-        0
+        None
     );
     assert_eq!(rt;
         refusal(plain(&roots, &rows), plain(&roots, &rows), 64, 1024)?,
-        31
+        Some(31)
     );
     Ok(())
 }
@@ -33,14 +33,14 @@ fn states(rt: HostRuntime) -> Result<(), Fail> {
 #[test]
 fn rows(rt: HostRuntime) -> Result<(), Fail> {
     let roots = [0; 1];
-    let rows = [ZERO; 511];
+    let rows = [Row::default(); 511];
     assert_eq!(rt;
         refusal(plain(&roots, &rows[0..1]), plain(&roots, &rows), 64, 1024)?,
-        0
+        None
     );
     assert_eq!(rt;
         refusal(plain(&roots, &rows[0..2]), plain(&roots, &rows), 64, 1024)?,
-        32
+        Some(32)
     );
     Ok(())
 }
@@ -49,22 +49,22 @@ fn rows(rt: HostRuntime) -> Result<(), Fail> {
 #[test]
 fn order(rt: HostRuntime) -> Result<(), Fail> {
     let roots = [0; 32];
-    let rows = [ZERO; 512];
+    let rows = [Row::default(); 512];
     assert_eq!(rt;
         refusal(plain(&roots, &rows), plain(&roots, &rows), 0, 0)?,
-        31
+        Some(31)
     );
     assert_eq!(rt;
         refusal(plain(&roots[0..1], &rows), plain(&roots, &rows), 0, 0)?,
-        32
+        Some(32)
     );
     Ok(())
 }
 
 #[test]
 fn room(rt: HostRuntime) -> Result<(), Fail> {
-    assert_eq!(rt; refusal(latch(), latch(), 5, 10)?, 0);
-    assert_eq!(rt; refusal(latch(), latch(), 4, 10)?, 33);
-    assert_eq!(rt; refusal(latch(), latch(), 5, 9)?, 33);
+    assert_eq!(rt; refusal(latch(), latch(), 5, 10)?, None);
+    assert_eq!(rt; refusal(latch(), latch(), 4, 10)?, Some(33));
+    assert_eq!(rt; refusal(latch(), latch(), 5, 9)?, Some(33));
     Ok(())
 }

@@ -1,6 +1,5 @@
 -- The pairs of rows of a front of a table, and the operands of a pattern's rows.
-use Rattle.std.proofs.Common.{◌≡◌, ℕ, zero, suc, ◌+◌, ◌<◌, max, Bool, ltb, List, [], ◌∷◌, ◌++◌, length, get_or, take, fold, Some, None, Option, Ok, Err, Result, MatchResult, sym, refl, ap, ◌∙◌, inl, inr, arith}
-use Rattle.std.proofs.lemmas.Bool.{cases_lt, cond-true, cond-false, lt-ltb, le-ltb}
+use Rattle.std.proofs.Common.{◌≡◌, ℕ, zero, suc, ◌+◌, ◌<◌, Bool, List, [], ◌∷◌, ◌++◌, length, get_or, take, fold, Some, None, Option, Ok, Err, Result, MatchResult, sym, refl, ap, ◌∙◌, arith}
 use Rattle.std.proofs.lemmas.List.{take_more, append_assoc}
 use Rattle.patterns.specs.declared.row.Row.{Row}
 use Rattle.patterns.specs.Automaton.{Automaton, states, row, blank}
@@ -9,15 +8,7 @@ use Rattle.patterns.specs.Questions.{first, unless, sized, ended, roots_fault, r
 use Rattle.patterns.specs.declared.fault.Fault.{Fault}
 use Rattle.patterns.specs.declared.fault.Fault.TheVariants.{Sizes, Ends}
 use Rattle.patterns.proofs.Meeting.{meets}
-use Rattle.duals.specs.Without.{larger}
 use Rattle.duals.specs.Dual.{row_copy, row_dual, dual_rows}
-
--- the larger of two numbers, by the library's word
-pub larger_is : (m k : ℕ) → max m k ≡ larger m k
-larger_is m k = elim (cases_lt m k) [
-  | inl l ↦ let e : max m k ≡ k = omega arith in e ∙ sym (cond-true (ltb m k) k m (lt-ltb m k l))
-  | inr l ↦ let e : max m k ≡ m = omega arith in e ∙ sym (cond-false (ltb m k) k m (le-ltb m k l))
-]
 
 first_none : (o p : Option Fault) → first o p ≡ None → (o ≡ None) × (p ≡ None)
 first_none None p e = (refl, e)

@@ -33,9 +33,11 @@ pub reread : (D : Type 0) (A : Automaton) (r : Result Heading TableFault) (h : H
     → (read_fault file 64 1024 ≡ None) × (A ≡ decoded (payload file))
 reread D A (Ok x) h file old new old-rows new-rows Q is c e f m t =
     let p = payload file in
-    let q : h ≡ x = cc in
-    (c.0, is ∙ ap (λ (u : List ℕ). fronts_of h u new-rows) e ∙ ap (fronts_of h (fronted (decoded p).roots old)) f
-    ∙ fronts_decoded p old old-rows h (q ∙ c.1))
+    let q : h ≡ x = cc in (
+      c.0,
+      is ∙ ap (λ (u : List ℕ). fronts_of h u new-rows) e ∙ ap (fronts_of h (fronted (decoded p).roots old)) f
+          ∙ fronts_decoded p old old-rows h (q ∙ c.1),
+    )
 reread D A (Err g) h file old new old-rows new-rows Q is c e f m t = absurd (cc)
 
 -- a file that was read holds a pattern

@@ -6,7 +6,7 @@ ghost use Rattle.patterns.specs.Questions.{judged};
 ghost use Rattle.patterns.specs.View.{automaton};
 ghost use Rattle.files.specs.Layout.{fronted};
 ghost use Rattle.duals.specs.Complement.{Fits};
-ghost use Rattle.duals.specs.Without.{without, row_count_of, state_count_of, last_row_of, final_in};
+ghost use Rattle.duals.specs.Without.{without, row_count_of, state_count_of, last_row_of, final_in, larger};
 ghost use Rattle.pairs.specs.Paired.{Paired, pair_heading_of};
 ghost use Rattle.pairs.specs.Questions.{pair_fault};
 
@@ -150,11 +150,18 @@ impl<'a> Pair<'a> {
         let rows = self.later.rows.len() + 2 * self.earlier.rows.len() + 1;
         Heading {
             states: (start + 1) as u8,
-            signals: self.later.signals.max(self.earlier.signals),
+            signals: self.signals(),
             start: start as u8,
             rows: rows as u16,
             finals: self.finals(),
         }
+    }
+
+    // The larger of the two numbers of signals.
+    fn signals(self) -> u8
+        ensures { result ≡ larger self.entry.later.signals self.entry.earlier.signals }
+    {
+        self.later.signals.max(self.earlier.signals)
     }
 
     // The final states, found one by one.

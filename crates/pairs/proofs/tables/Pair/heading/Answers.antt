@@ -2,7 +2,6 @@ use Rattle.std.proofs.Common.{ℕ, ◌+◌, ap, ◌∙◌}
 use Rattle.files.specs.declared.heading.Heading.{Heading}
 use Rattle.patterns.specs.Automaton.{read}
 use Rattle.duals.specs.Without.{without, row_count_of, state_count_of}
-use Rattle.pairs.proofs.Pairs.{larger_is}
 use Rattle.pairs.proofs.tables.Pair.heading.Goals as goal
 
 pub returns : goal.returns
@@ -17,5 +16,5 @@ returns c =
       rows = row_count_of B A + 1;
       finals = d;
     } in
-    ap (λ (m : ℕ). made m c.finals.result) (c.max.ensures ∙ larger_is c.args.self.later.signals c.args.self.earlier.signals)
+    ap (λ (m : ℕ). made m c.finals.result) c.signals.ensures
     ∙ ap (made (without B A).signals) c.finals.ensures
