@@ -8,7 +8,7 @@ use Rattle.kinds.specs.Accepted.{and_then}
 use Rattle.kinds.specs.Certificate.{covered}
 use Rattle.kinds.proofs.Values.{none_some, none_or_some, from_value, true_if_not_false}
 use Rattle.inspector.specs.Inspected.{least, has_such, uncovered, leads_out}
-use Rattle.inspector.specs.Searches.{KeptIn}
+use Rattle.inspector.proofs.Finds.{KeptIn}
 use Rattle.inspector.proofs.Leasts.{least_missing, least_first, least_fails, least_found}
 use Rattle.search.specs.Search.{least_move_of}
 use Rattle.search.proofs.Entries.{mapped_from}

@@ -1,4 +1,4 @@
-use Rattle.inspector.specs.Searches.{KeptIn}
+use Rattle.inspector.proofs.Finds.{KeptIn}
 use Rattle.finds.proofs.finder.least_move.Given as goal
 
 -- no move before this one leads to anything new
