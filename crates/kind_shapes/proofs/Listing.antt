@@ -67,11 +67,11 @@ module _ (c : ℕ) where
       let next : members c (a + suc n) ≡ members c (suc a) ++ rest =
       ap (members c) e ∙ listed_from (a + 1) n ∙ ap (λ (k : ℕ). members c k ++ rest) (add-one a) in
       ⊎_elim
-          (λ (t : has c a ≡ true). next ∙ ap (λ (xs : List ℕ). xs ++ rest) (members_more a t) ∙ append_assoc (members c a) (a ∷ []) rest
-          ∙ ap (λ (xs : List ℕ). members c a ++ xs) (sym (cond-true (has c a) (a ∷ rest) rest t)))
-          (λ (t : has c a ≡ false). next ∙ ap (λ (xs : List ℕ). xs ++ rest) (members_skip a t)
-          ∙ ap (λ (xs : List ℕ). members c a ++ xs) (sym (cond-false (has c a) (a ∷ rest) rest t)))
-          (cases_Bool (has c a))
+      (λ (t : has c a ≡ true). next ∙ ap (λ (xs : List ℕ). xs ++ rest) (members_more a t) ∙ append_assoc (members c a) (a ∷ []) rest
+      ∙ ap (λ (xs : List ℕ). members c a ++ xs) (sym (cond-true (has c a) (a ∷ rest) rest t)))
+      (λ (t : has c a ≡ false). next ∙ ap (λ (xs : List ℕ). xs ++ rest) (members_skip a t)
+      ∙ ap (λ (xs : List ℕ). members c a ++ xs) (sym (cond-false (has c a) (a ∷ rest) rest t)))
+      (cases_Bool (has c a))
 
   pub listed : (n : ℕ) → filter (has c) (range_with_len 0 n) ≡ members c n
   unfolding members
