@@ -47,8 +47,8 @@ fn rootless(roots: &[u16], count: usize) -> Option<usize>
 }
 
 // Whether each row is one that a pattern may have, of so many states and signals.
-// Stays: (a) the library has no heap, so the bits of the rows so far are the front of a table as long as a pattern's.
-// Stays: (d) `states` and `signals` go on to the public `check_row`, which takes them apart, so no struct holds both.
+// Stays: the library has no heap, so the bits of the rows so far are the front of a table as long as a pattern's.
+// Stays: `states` and `signals` go on to the public `check_row`, which takes them apart, so no struct holds both.
 pub(crate) fn check_rows(rows: &[Row], states: usize, signals: u8) -> Result<(), Fault>
     requires { length rows.now ≤ 1024 }
     ensures { MatchResult result

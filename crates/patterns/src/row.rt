@@ -50,7 +50,7 @@ impl From<Operation> for u8 {
     }
 }
 
-// Stays: (a) a table is the caller's and may hold any number, which is refused under 4, so the operation is a `u8`.
+// Stays: a table is the caller's and may hold any number, which is refused under 4, so the operation is a `u8`.
 #[derive(Clone, Copy, PartialEq, Eq, Debug, Default)]
 pub struct Row {
     pub operation: u8,

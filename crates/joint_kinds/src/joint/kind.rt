@@ -23,9 +23,9 @@ use patterns::pattern::Pattern;
 use sets::{Event, States, holds, is_below, is_within};
 
 impl<'a> CheckedJoint<'a> {
-    // The pattern with the model. Both are asked once more, since nothing but their making says that they were: tables
-    // that fail would give the pattern that accepts nothing or the model that sends nothing, and
-    // `JointParts::checked` lets none through. The kind accepts the sequences that the pattern accepts and the model sends.
+    // The pattern with the model. The model is asked once more, since nothing but its making says that it was: one that
+    // fails would give the model that sends nothing, and `JointParts::checked` lets none through. The kind accepts the
+    // sequences that the pattern accepts and the model sends.
     pub fn seal(self) -> Joint<'a>
         ensures pattern { joint_pattern result ≡ sound_pattern (checked_pattern self.entry) }
         ensures model { joint_model result ≡ sound_model (sound_pattern (checked_pattern self.entry)).signals (checked_model self.entry) }

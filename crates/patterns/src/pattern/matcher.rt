@@ -76,7 +76,7 @@ impl<'a> Pattern<'a> {
     }
 
     // Writes the value of each row into the front of the table, in one pass: operands come before their row.
-    // Stays: (a) the library has no heap, so the values are the front of a table as long as a pattern's can be.
+    // Stays: the library has no heap, so the values are the front of a table as long as a pattern's can be.
     #[tactic(auto, using(crate::proofs::Made::few_rows))]
     fn evaluate(&self, event: Event, states: States, table: &mut [bool; MAX_ROWS])
         ensures { take (length self.now.parts.rows.now) table.new ≡ values self.now.parts.rows.now event states }
