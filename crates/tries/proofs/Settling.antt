@@ -1,10 +1,10 @@
 -- Rows put before others. Assumes nothing.
 use Rattle.std.proofs.Common.{◌≡◌, ℕ, suc, ◌+◌, ◌-◌, ◌*◌, ◌<◌, ◌≤◌, true, false, cond, ◌&&◌, ◌||◌, eqb, ltb, leb, List, [], ◌∷◌, ◌++◌, length, get_or, take, drop, set, sym, refl, ap, ◌∙◌, subst, ⊎_elim, arith}
 use Rattle.std.proofs.lemmas.Bool.{cases_lt, cases_Bool, and_parts, and_from, eq-eqb, lt-ltb, ltb-true, ltb-false, or_parts, le-leb, cond_both}
-use Rattle.std.proofs.lemmas.List.{drop-set, take-take, get_or-take}
+use Rattle.std.proofs.lemmas.List.{drop-set, drop_all, take-take, get_or-take}
 use Rattle.tries.specs.declared.row.Row.{Row}
 use Rattle.tries.specs.Rows.{way, paths, run, linked, shaped, bearing}
-use Rattle.tries.specs.Changes.{counted, bear, settled}
+use Rattle.tries.specs.Changes.{counted, bear, settled, Standing, Settled}
 use Rattle.tries.proofs.Paths.{length_way, way_take, run_stops, run_stopped, shaped_parts, paths_lead}
 use Rattle.tries.proofs.Walks.{blank, read_at}
 
@@ -131,3 +131,27 @@ written rows start r l h t count e x is =
     ∙ ap (λ k. x ∷ drop k rows) j
     ∙ ap (λ y. y ∷ drop start rows) (is ∙ ap (λ k. record { number = r.number; depth = r.depth; ends = r.ends; skip = suc k }) e)
     ∙ sym (ap (λ b. cond b (counted r (drop start rows) ∷ drop start rows) (drop start rows)) t)
+
+-- ---- rows before those that stand, and others before these
+
+pub still_standing : (n : ℕ) (rs ss : List Row) (i : ℕ) (ts : List Row) (j : ℕ) → length ts ≡ length ss → Standing i ss → Settled n rs ss i ts j → Standing j ts
+still_standing n rs ss i ts j l p s = record {
+  within = omega (arith, l, p.within, s.place);
+  linked = ap linked s.items ∙ linked_settled rs (drop i ss) p.linked;
+}
+
+-- where none is, all stand
+pub none_standing : (rs : List Row) → Standing (length rs) rs
+none_standing rs = record { within = omega arith; linked = ap linked (drop_all (length rs) rs (omega arith)) }
+
+pub settled_none : (n : ℕ) (rs ss : List Row) (i : ℕ) → rs ≡ [] → Settled n rs ss i ss i
+settled_none n rs ss i e = record { items = sym (ap (λ z. settled z (drop i ss)) e); same = refl; near = omega arith; place = omega arith }
+
+module _ (m : ℕ) (qs : List Row) (n : ℕ) (rs ss : List Row) (i : ℕ) (ts : List Row) (j : ℕ) (us : List Row) (k : ℕ) where
+  pub settled_then : (a : ℕ) (ps : List Row) → a ≡ m + n → ps ≡ qs ++ rs → a ≤ i → Settled n rs ss i ts j → Settled m qs ts j us k → Settled a ps ss i us k
+  settled_then a ps e f l s t = record {
+    items = t.items ∙ ap (settled qs) s.items ∙ sym (settled_append qs rs (drop i ss)) ∙ sym (ap (λ z. settled z (drop i ss)) f);
+    same = fewer_kept ts us (i - a) (j - m) (omega (arith, s.near)) t.same ∙ fewer_kept ss ts (i - a) (i - n) (omega arith) s.same;
+    near = omega (arith, s.near, t.near);
+    place = omega (arith, s.place, t.place);
+  }

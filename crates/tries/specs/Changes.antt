@@ -5,14 +5,16 @@
 -- sprouts w d n     the n rows that hold the numbers of w from place d on; at the last number of w a key ends
 -- bear r rs         the rows with r before them, and the count of the rows beneath it; if no key ends at r and none is beneath it, r is let go
 -- settled rs ss     ss with all of rs before them, in this way
+-- Standing i rs     the rows from i on each count the rows beneath them
+-- Settled           ts is ss with all of rs put before the rows from i on, in this way: they begin at j then, and of the rows before i only the last n are written over
 -- grown w rs i d    the rows with those of w from place d on, put in at row i
 -- Spotted           a place for w: row i, where the first d numbers are those of w, and no row beneath the row that d is counted from follows
 -- PutIn w rs ss     ss is rs with the rows of w put in at some such place
 -- put v ws          the keys once v is put in: those that contain all of v are dropped
-use Rattle.std.specs.Prelude.{◌≡◌, ℕ, zero, suc, ◌-◌, ◌<◌, ◌≤◌, cond, not, ◌&&◌, ◌||◌, List, [], ◌∷◌, ◌++◌, length, take, drop, filter, ◌==◌, nat_lt, slice_index}
+use Rattle.std.specs.Prelude.{◌≡◌, ℕ, zero, suc, ◌+◌, ◌-◌, ◌<◌, ◌≤◌, true, cond, not, ◌&&◌, ◌||◌, List, [], ◌∷◌, ◌++◌, length, take, drop, filter, ◌==◌, nat_lt, slice_index}
 use Rattle.keys.specs.Numbers.{contained}
 use Rattle.tries.specs.declared.row.Row.{Row}
-use Rattle.tries.specs.Rows.{way, after, run}
+use Rattle.tries.specs.Rows.{way, after, run, linked}
 
 abbrev pub kept : List ℕ → List (List ℕ) → List (List ℕ)
 kept v ws = filter (λ w. not (contained v w)) ws
@@ -43,6 +45,16 @@ bear r rs = cond (r.ends || nat_lt 0 (run r.depth rs)) (counted r rs ∷ rs) rs
 abbrev pub settled : List Row → List Row → List Row
 settled [] ss = ss
 settled (r ∷ rs) ss = bear r (settled rs ss)
+
+pub record Standing (i : ℕ) (rs : List Row) : Type 0 where
+  pub within : i ≤ length rs
+  pub linked : linked (drop i rs) ≡ true
+
+pub record Settled (n : ℕ) (rs ss : List Row) (i : ℕ) (ts : List Row) (j : ℕ) : Type 0 where
+  pub items : drop j ts ≡ settled rs (drop i ss)
+  pub same : take (i - n) ts ≡ take (i - n) ss
+  pub near : i ≤ j + n
+  pub place : j ≤ i
 
 abbrev pub grown : List ℕ → List Row → ℕ → ℕ → List Row
 grown w rs i d = take i rs ++ (sprouts w d (length w - d) ++ drop i rs)

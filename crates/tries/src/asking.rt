@@ -1,5 +1,5 @@
 // Questions asked of the rows of a trie.
-ghost use Rattle.std.specs.Prelude.{◌≡◌, ◌+◌, ◌<◌, ◌≤◌, true, [], length, Decides, slice_index, slice_set};
+ghost use Rattle.std.specs.Prelude.{◌≡◌, ◌<◌, true, [], slice_set};
 ghost use Rattle.keys.specs.Listed.{numbers};
 ghost use Rattle.keys.specs.Numbers.{without};
 ghost use Rattle.tries.specs.Rows.{paths, run, linked, reached, matched};
@@ -9,6 +9,7 @@ ghost use Rattle.tries.specs.Trails.{before};
 
 use crate::forest::Forest;
 use crate::row::Row;
+use crate::word::Word;
 use keys::key::{Key, MAX_NUMBERS};
 
 // A place among the rows, and how many numbers are shared with the rows before it.
@@ -48,6 +49,7 @@ impl Forest {
     pub(crate) fn matches(&self, key: Key) -> bool
         ensures { result ≡ matched (numbers key) (paths [] (in_use self.now)) }
     {
+        // Stays: one key for each depth of a way, in fixed memory; a list that grows would be made on the heap.
         let mut left = [key; MAX_NUMBERS];
         let mut ahead = self.in_use();
         while let Some((row, rest)) = ahead.split_first() {
@@ -64,10 +66,8 @@ impl Forest {
 
     // Where the rest of the word goes: behind all that is beneath the last row that it shares. Its last number is not
     // shared.
-    pub(crate) fn place(&self, word: &[u16]) -> Spot
-        requires some { 0 < length word.now }
-        requires short { length word.now ≤ 65 }
-        ensures { Spotted word.now (in_use self.now) result.at result.depth }
+    pub(crate) fn place(&self, word: Word) -> Spot
+        ensures { Spotted word.entry.list.now (in_use self.now) result.at result.depth }
     {
         let rows = self.in_use();
         let mut depth = 0;
@@ -76,7 +76,7 @@ impl Forest {
             if (row.depth as usize) < depth {
                 break;
             }
-            if shares(*row, word, depth) {
+            if word.shares(*row, depth) {
                 depth += 1;
                 ahead = rest;
             } else {
@@ -117,12 +117,4 @@ pub(crate) fn measure(rows: &[Row], depth: u8) -> usize
         ahead = row.past(rest);
     }
     rows.len() - ahead.len()
-}
-
-// Whether the row holds the word's number at the depth, and that is not its last.
-fn shares(row: Row, word: &[u16], depth: usize) -> bool
-    requires { depth < length word.now }
-    ensures { Decides result ((row.depth ≡ depth) × (depth + 1 < length word.now) × (row.number ≡ slice_index word.now depth)) }
-{
-    row.depth as usize == depth && depth + 1 < word.len() && row.number == word[depth]
 }

@@ -1,12 +1,13 @@
 // Changes made to the rows of a trie.
-ghost use Rattle.std.specs.Prelude.{◌≡◌, ◌+◌, ◌-◌, ◌<◌, ◌≤◌, true, not, ◌&&◌, [], length, take, drop};
+ghost use Rattle.std.specs.Prelude.{◌≡◌, ◌-◌, ◌<◌, ◌≤◌, true, not, ◌&&◌, [], ◌∷◌, length, take, drop};
 ghost use Rattle.keys.specs.Listed.{numbers};
 ghost use Rattle.keys.specs.Numbers.{none};
-ghost use Rattle.tries.specs.Rows.{paths, linked, shaped};
-ghost use Rattle.tries.specs.Changes.{released, sprout, sprouts, bear, settled};
+ghost use Rattle.tries.specs.Rows.{paths, shaped};
+ghost use Rattle.tries.specs.Changes.{released, sprouts, Standing, Settled};
 
 use crate::asking::{follow, measure};
 use crate::row::Row;
+use crate::word::Word;
 use keys::key::{Key, MAX_NUMBERS};
 
 // Lets go the keys that contain all of this one, and answers how many are left. No row is moved.
@@ -15,6 +16,7 @@ pub(crate) fn release(rows: &mut [Row], key: Key) -> usize
     ensures rows { rows.new ≡ released (numbers key) [] rows.old }
     ensures count { result ≡ length (paths [] (released (numbers key) [] rows.old)) }
 {
+    // Stays: one key for each depth of a way, in fixed memory; a list that grows would be made on the heap.
     let mut left = [key; MAX_NUMBERS];
     let mut count = 0;
     for row in rows.iter_mut() {
@@ -39,12 +41,8 @@ fn keeps(row: Row, rest: Key) -> bool
 pub(crate) fn settle_rows(rows: &mut [Row], from: usize, upto: usize, start: usize) -> usize
     requires order { from ≤ upto }
     requires place { upto ≤ start }
-    requires within { start ≤ length rows.old }
-    requires linked { linked (drop start rows.old) ≡ true }
-    ensures items { drop result rows.new ≡ settled (take (upto - from) (drop from rows.old)) (drop start rows.old) }
-    ensures same { take from rows.new ≡ take from rows.old }
-    ensures near { start ≤ result + (upto - from) }
-    ensures place { result ≤ start }
+    requires part { Standing start rows.old }
+    ensures { Settled (upto - from) (take (upto - from) (drop from rows.old)) rows.old start rows.new result }
 {
     let mut begin = start;
     for i in (from..upto).rev() {
@@ -58,20 +56,15 @@ pub(crate) fn settle_rows(rows: &mut [Row], from: usize, upto: usize, start: usi
 // begin then.
 // Stays: one function for this and settle_rows would take a closure from the rows and a place to a row, and be longer
 // than the two loops.
-pub(crate) fn settle_word(rows: &mut [Row], word: &[u16], depth: usize, start: usize) -> usize
-    requires deep { depth ≤ length word.now }
-    requires short { length word.now ≤ 65 }
-    requires place { length word.now - depth ≤ start }
-    requires within { start ≤ length rows.old }
-    requires linked { linked (drop start rows.old) ≡ true }
-    ensures items { drop result rows.new ≡ settled (sprouts word.now depth (length word.now - depth)) (drop start rows.old) }
-    ensures same { take (start - (length word.now - depth)) rows.new ≡ take (start - (length word.now - depth)) rows.old }
-    ensures near { start ≤ result + (length word.now - depth) }
-    ensures place { result ≤ start }
+pub(crate) fn settle_word(rows: &mut [Row], word: Word, depth: usize, start: usize) -> usize
+    requires deep { depth ≤ length word.list.now }
+    requires place { length word.list.now - depth ≤ start }
+    requires part { Standing start rows.old }
+    ensures { Settled (length word.entry.list.now - depth) (sprouts word.entry.list.now depth (length word.entry.list.now - depth)) rows.old start rows.new result }
 {
     let mut begin = start;
-    for i in (depth..word.len()).rev() {
-        begin = settle(rows, begin, sprout(word, i));
+    for i in (depth..word.list.len()).rev() {
+        begin = settle(rows, begin, word.sprout(i));
     }
     begin
 }
@@ -80,12 +73,8 @@ pub(crate) fn settle_word(rows: &mut [Row], word: &[u16], depth: usize, start: u
 // begin then.
 fn settle(rows: &mut [Row], start: usize, row: Row) -> usize
     requires place { 0 < start }
-    requires within { start ≤ length rows.old }
-    requires linked { linked (drop start rows.old) ≡ true }
-    ensures items { drop result rows.new ≡ bear row (drop start rows.old) }
-    ensures same { take (start - 1) rows.new ≡ take (start - 1) rows.old }
-    ensures near { start ≤ result + 1 }
-    ensures place { result ≤ start }
+    requires part { Standing start rows.old }
+    ensures { Settled 1 (row ∷ []) rows.old start rows.new result }
 {
     let below = measure(&rows[start..], row.depth);
     if !row.ends && below == 0 {
@@ -93,18 +82,4 @@ fn settle(rows: &mut [Row], start: usize, row: Row) -> usize
     }
     rows[start - 1] = row.over(below);
     start - 1
-}
-
-// The row that holds the word's number at the depth.
-fn sprout(word: &[u16], depth: usize) -> Row
-    requires deep { depth < length word.now }
-    requires short { length word.now ≤ 65 }
-    ensures { result ≡ sprout word.now depth }
-{
-    Row {
-        number: word[depth],
-        depth: depth as u8,
-        ends: depth + 1 == word.len(),
-        skip: 1,
-    }
 }

@@ -1,5 +1,5 @@
 // An insertion into the rows of a trie.
-ghost use Rattle.std.specs.Prelude.{◌≡◌, ◌+◌, ◌-◌, ◌<◌, ◌≤◌, true, [], length, take, drop};
+ghost use Rattle.std.specs.Prelude.{◌≡◌, ◌+◌, ◌-◌, ◌≤◌, true, [], length, take, drop};
 ghost use Rattle.stores.specs.Holding.{Reordered};
 ghost use Rattle.keys.specs.Listed.{numbers};
 ghost use Rattle.keys.specs.Numbers.{none};
@@ -12,6 +12,7 @@ use crate::asking::Spot;
 use crate::changing::{release, settle_rows, settle_word};
 use crate::forest::Forest;
 use crate::row::Row;
+use crate::word::Word;
 use keys::key::{Key, MAX_NUMBERS};
 
 impl Forest {
@@ -24,27 +25,26 @@ impl Forest {
         ensures bearing { bearing (in_use self.new) ≡ true }
         ensures room { length self.new.rows.items ≡ length self.old.rows.items }
     {
-        if key.is_empty() {
+        let mut numbers = [0; MAX_NUMBERS];
+        if let Some(word) = Word::of(key, &mut numbers) {
+            self.exchange(word)
+        } else {
             self.used = 0;
             1
-        } else {
-            self.exchange(key)
         }
     }
 
-    // Drops the keys in the rows that contain all of this one, and puts it in. Rows that bear nothing any more are free
+    // Drops the keys in the rows that contain all of the word, and puts it in. Rows that bear nothing any more are free
     // again. The answer is how many keys the rows hold then.
-    fn exchange(&mut self, key: Key) -> usize
-        requires room { self.old.used + 65 ≤ length self.old.rows.items }
-        requires some { 0 < length (numbers key) }
-        ensures items { Reordered (put (numbers key) (paths [] (in_use self.old))) (paths [] (in_use self.new)) }
+    fn exchange(&mut self, word: Word) -> usize
+        requires { self.old.used + 65 ≤ length self.old.rows.items }
+        ensures items { Reordered (put word.entry.list.now (paths [] (in_use self.old))) (paths [] (in_use self.new)) }
         ensures size { result ≡ length (paths [] (in_use self.new)) }
         ensures bearing { bearing (in_use self.new) ≡ true }
         ensures room { length self.new.rows.items ≡ length self.old.rows.items }
     {
-        let left = self.let_go(key);
-        let mut numbers = [0; MAX_NUMBERS];
-        self.put_in(key.write(&mut numbers));
+        let left = self.let_go(word.key);
+        self.put_in(word);
         left + 1
     }
 
@@ -59,11 +59,9 @@ impl Forest {
     }
 
     // Puts the rows of the word in.
-    fn put_in(&mut self, word: &[u16])
-        requires room { self.old.used + 65 ≤ length self.old.rows.items }
-        requires some { 0 < length word.now }
-        requires short { length word.now ≤ 65 }
-        ensures items { PutIn word.now (in_use self.old) (in_use self.new) }
+    fn put_in(&mut self, word: Word)
+        requires { self.old.used + 65 ≤ length self.old.rows.items }
+        ensures items { PutIn word.entry.list.now (in_use self.old) (in_use self.new) }
         ensures room { length self.new.rows.items ≡ length self.old.rows.items }
     {
         let spot = self.place(word);
@@ -82,12 +80,11 @@ fn release_used(rows: &mut [Row], used: usize, key: Key) -> usize
 }
 
 // Puts the rows of the word in at their place, and answers how many rows are in use then.
-fn grow(rows: &mut [Row], used: usize, word: &[u16], spot: Spot) -> usize
+fn grow(rows: &mut [Row], used: usize, word: Word, spot: Spot) -> usize
     requires room { used + 65 ≤ length rows.old }
-    requires short { length word.now ≤ 65 }
-    requires spotted { Spotted word.now (take used rows.old) spot.at spot.depth }
+    requires spotted { Spotted word.list.now (take used rows.old) spot.at spot.depth }
     ensures within { result ≤ length rows.old }
-    ensures items { PutIn word.now (take used rows.old) (take result rows.new) }
+    ensures items { PutIn word.entry.list.now (take used rows.old) (take result rows.new) }
 {
     let end = rows.len();
     let behind = settle_rows(rows, spot.at, used, end);

@@ -7,3 +7,4 @@ mod exchanging;
 mod forest;
 pub mod row;
 pub mod trie;
+mod word;

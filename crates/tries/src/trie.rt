@@ -13,6 +13,7 @@ pub mod storing;
 #[derive(Drop)]
 pub struct TrieStore<const LEADS: usize> {
     forest: Forest,
+    // Stays: to count the keys again would be a walk over all rows in use, at each question and each insertion.
     size: usize,
     root: bool,
     ghost bearing: { bearing (in_use forest) ≡ true },

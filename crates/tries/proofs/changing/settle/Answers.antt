@@ -12,7 +12,7 @@ all_behind : (start : ℕ) (rows : List Row) → take (length rows - start) (dro
 all_behind start rows = take_all (length rows - start) (drop start rows) (omega (arith, length-drop start rows))
 
 pub measure-below-requires : goal.measure-below-requires
-measure-below-requires c = ap linked (all_behind c.args.start c.args.rows.now) ∙ c.requires.linked
+measure-below-requires c = ap linked (all_behind c.args.start c.args.rows.now) ∙ c.requires.part.linked
 
 pub over-requires : goal.over-requires
 over-requires c =
@@ -20,7 +20,7 @@ over-requires c =
     let k = length-drop c.args.start c.args.rows.now in
     let e = c.measure-below.ensures ∙ ap (run c.args.row.depth) (all_behind c.args.start c.args.rows.now) in
     let p = c.requires.place in
-    let w = c.requires.within in
+    let w = c.requires.part.within in
     search rules
 
 pub returns : goal.returns
@@ -30,7 +30,7 @@ returns c =
     let row = c.args.row in
     let below = run row.depth (drop start rows) in
     let p = c.requires.place in
-    let w = c.requires.within in
+    let w = c.requires.part.within in
     let m : c.measure-below.result ≡ below = c.measure-below.ensures ∙ ap (run row.depth) (all_behind start rows) in
     let bears : (row.ends || ltb 0 below) ≡ true = elim c.else-not-row.branch [
       | else-not-row-via-then-not-row+else-below-eq0 x ↦ or_right row.ends (ltb 0 below) (lt-ltb 0 below (omega (arith, m, x.if-below-eq0.false)))
