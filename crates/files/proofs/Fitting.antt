@@ -10,9 +10,13 @@ use Rattle.blocks.specs.Layout.{block_count, blocks_of}
 use Rattle.blocks.specs.Writing.{file_len_of, fitted, writes}
 use Rattle.blocks.proofs.Files.{length_blocks_of}
 use Rattle.patterns.specs.declared.fault.Fault.{Fault}
-use Rattle.patterns.specs.Automaton.{Automaton}
+use Rattle.patterns.specs.declared.parts.Parts.{Parts}
+use Rattle.patterns.specs.declared.pattern.Pattern as pattern
+use Rattle.patterns.specs.Automaton.{Automaton, read}
 use Rattle.patterns.specs.Formed.{Formed}
 use Rattle.patterns.specs.Questions.{judged}
+use Rattle.patterns.specs.View.{automaton}
+use Rattle.patterns.proofs.Made.{is_formed}
 use Rattle.files.specs.declared.fault.RecordCause.TheVariants.{Buffer}
 use Rattle.files.specs.declared.fault.RecordFault.TheVariants as record-fault
 use Rattle.files.specs.declared.fault.TableCause.TheVariants.{Pattern}
@@ -23,6 +27,10 @@ use Rattle.files.specs.Questions.{max_file, first, unless, write_fault}
 use Rattle.files.specs.RoundTrips.{ReadsBack}
 use Rattle.files.proofs.Rereading.{reads_back}
 use Rattle.files.proofs.RoundTrip.{length_encoded}
+
+-- what a pattern lends is a pattern
+pub lent_formed : (p : pattern.Pattern) (parts : Parts) → read parts ≡ automaton p → Formed (read parts)
+lent_formed p parts e = subst Formed (sym e) (is_formed p)
 
 module _ (A : Automaton) (F : Formed A) where
   pub length_range : (16 ≤ length (encoded A)) × (length (encoded A) ≤ 6288)

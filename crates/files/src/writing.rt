@@ -2,7 +2,7 @@
 ghost use Rattle.std.specs.Prelude.{◌≡◌, ◌+◌, ◌*◌, ◌≤◌, cond, ◌++◌, length, take, drop, is_ok, IfOk, Some, None, Ok, Err, MatchResult, nat_le};
 ghost use Rattle.std.specs.List.{flat_map};
 ghost use Rattle.patterns.specs.Automaton.{read};
-ghost use Rattle.patterns.specs.Formed.{Formed};
+ghost use Rattle.patterns.specs.View.{automaton};
 ghost use Rattle.files.specs.declared.fault.RecordCause.TheVariants as record-cause;
 ghost use Rattle.files.specs.declared.fault.RecordFault.TheVariants as record-fault;
 ghost use Rattle.files.specs.declared.fault.TableFault.TheVariants as table-fault;
@@ -16,6 +16,7 @@ use crate::fault::{RecordCause, RecordFault, TableFault};
 use crate::heading::{EDITION, HEADING_LEN, ROOT_LEN, ROW_LEN};
 use blocks::writer::write_file;
 use patterns::parts::Parts;
+use patterns::pattern::Pattern;
 use patterns::questions::MAX_ROWS;
 use patterns::row::Row;
 use sets::MAX_STATES;
@@ -34,24 +35,23 @@ pub fn write_pattern(parts: Parts, buffer: &mut [u8]) -> Result<usize, TableFaul
         buffer.old }
     ensures again { IfOk result (λ n. ReadsBack (take n buffer.new) (read parts.entry)) }
 {
-    parts.check()?;
-    write_formed(parts, buffer)
+    let pattern = parts.checked()?.seal();
+    write_formed(&pattern, buffer)
 }
 
 // Writes the file of a pattern, unless the buffer is shorter: a pattern's payload always has a file.
-fn write_formed(parts: Parts, buffer: &mut [u8]) -> Result<usize, TableFault>
-    requires { Formed (read parts) }
-    ensures value { result ≡ cond (nat_le (length (file_of (read parts.entry))) (length buffer.old))
-        (Ok (length (file_of (read parts.entry))))
+fn write_formed(pattern: &Pattern, buffer: &mut [u8]) -> Result<usize, TableFault>
+    ensures value { result ≡ cond (nat_le (length (file_of (automaton pattern.now))) (length buffer.old))
+        (Ok (length (file_of (automaton pattern.now))))
         (Err (table-fault.Record (record-fault.Record record-cause.Buffer))) }
     ensures after { buffer.new ≡ cond (is_ok result)
-        (file_of (read parts.entry) ++ drop (length (file_of (read parts.entry))) buffer.old)
+        (file_of (automaton pattern.now) ++ drop (length (file_of (automaton pattern.now))) buffer.old)
         buffer.old }
-    ensures again { IfOk result (λ n. ReadsBack (take n buffer.new) (read parts.entry)) }
+    ensures again { IfOk result (λ n. ReadsBack (take n buffer.new) (automaton pattern.now)) }
 {
     // Stays: the library has no heap, so the payload stands in a fixed array with its length beside it.
     let mut payload = [0; MAX_PAYLOAD];
-    let len = lay_out(parts, &mut payload);
+    let len = lay_out(pattern, &mut payload);
     match write_file(&payload[..len], buffer) {
         Ok(file_len) => Ok(file_len),
         Err(_) => Err(TableFault::Record(RecordFault::Record(RecordCause::Buffer))),
@@ -59,14 +59,14 @@ fn write_formed(parts: Parts, buffer: &mut [u8]) -> Result<usize, TableFault>
 }
 
 // Lays the pattern's payload out at the front of `payload`, and says how many bytes it has.
-fn lay_out(parts: Parts, payload: &mut [u8]) -> usize
-    requires formed { Formed (read parts) }
-    requires room { 6288 ≤ length payload.old }
-    ensures value { result ≡ length (encoded (read parts.entry)) }
-    ensures after { payload.new ≡ laid 0 (encoded (read parts.entry)) payload.old }
+fn lay_out(pattern: &Pattern, payload: &mut [u8]) -> usize
+    requires { 6288 ≤ length payload.old }
+    ensures value { result ≡ length (encoded (automaton pattern.now)) }
+    ensures after { payload.new ≡ laid 0 (encoded (automaton pattern.now)) payload.old }
 {
+    let parts = pattern.parts();
     let rows_place = find_rows(parts.roots.len());
-    lay_heading(parts, payload);
+    lay_heading(pattern, payload);
     lay(parts.roots, payload, HEADING_LEN);
     lay(parts.rows, payload, rows_place);
     rows_place + ROW_LEN * parts.rows.len()
@@ -81,11 +81,11 @@ fn find_rows(states: usize) -> usize
 }
 
 // The heading: edition, states, signals, start; from place 4 on the rows, from 6 on the final set, from 14 on two zeros.
-fn lay_heading(parts: Parts, payload: &mut [u8])
-    requires formed { Formed (read parts) }
-    requires room { 16 ≤ length payload.old }
-    ensures { payload.new ≡ laid 0 (heading_bytes (read parts.entry)) payload.old }
+fn lay_heading(pattern: &Pattern, payload: &mut [u8])
+    requires { 16 ≤ length payload.old }
+    ensures { payload.new ≡ laid 0 (heading_bytes (automaton pattern.now)) payload.old }
 {
+    let parts = pattern.parts();
     let states = parts.roots.len() as u8;
     let rows = parts.rows.len() as u16;
     payload[..4].copy_from_slice(&[EDITION, states, parts.signals, parts.start]);

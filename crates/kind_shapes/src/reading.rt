@@ -33,7 +33,7 @@ pub fn finals_of(pattern: &Pattern) -> States
 pub fn event_count(pattern: &Pattern) -> Move
     ensures { result ≡ 2 ^ (automaton pattern.now).signals }
 {
-    power(signal_count(pattern))
+    1 << signal_count(pattern)
 }
 
 // The event of a move: its low m bits, and so a number below 2^m stands for itself.
@@ -41,14 +41,14 @@ pub fn event_of(pattern: &Pattern, k: Move) -> Event
     ensures value { result ≡ k % 2 ^ (automaton pattern.now).signals }
     ensures same { k < 2 ^ (automaton pattern.now).signals → result ≡ k }
 {
-    low_bits(k, signal_count(pattern))
+    (k % (1 << signal_count(pattern))) as Event
 }
 
 // The number of a move's arrow: what is above the low m bits.
 pub fn arrow_of(pattern: &Pattern, k: Move) -> usize
     ensures { result ≡ k / 2 ^ (automaton pattern.now).signals }
 {
-    high_bits(k, signal_count(pattern))
+    (k >> signal_count(pattern)) as usize
 }
 
 // The states that the event leads from into the set.
@@ -64,26 +64,4 @@ fn signal_count(pattern: &Pattern) -> u8
     ensures few { result ≤ 16 }
 {
     pattern.parts().signals
-}
-
-fn power(signals: u8) -> Move
-    requires { signals ≤ 16 }
-    ensures { result ≡ 2 ^ signals }
-{
-    1 << signals
-}
-
-fn low_bits(k: Move, signals: u8) -> Event
-    requires { signals ≤ 16 }
-    ensures value { result ≡ k % 2 ^ signals }
-    ensures same { k < 2 ^ signals → result ≡ k }
-{
-    (k % power(signals)) as Event
-}
-
-fn high_bits(k: Move, signals: u8) -> usize
-    requires { signals ≤ 16 }
-    ensures { result ≡ k / 2 ^ signals }
-{
-    (k / power(signals)) as usize
 }

@@ -1,10 +1,12 @@
-use Rattle.std.proofs.Common.{◌≡◌, ℕ, ◌/◌, ◌%◌, List, [], ◌∷◌, ◌++◌, length, drop, refl, ap, ◌∙◌, arith, length-append}
+use Rattle.std.proofs.Common.{rules, ◌≡◌, ℕ, ◌/◌, ◌%◌, List, [], ◌∷◌, ◌++◌, length, drop, refl, ap, ◌∙◌, arith, length-append}
 use borrow.Rule.Slice.PartMut.{put_mid}
 use native.Mathlib.Nat.{div-div-eq-div-mul}
 use Rattle.blocks.specs.Bytes.{bytes_of}
-use Rattle.patterns.specs.Automaton.{read}
+use Rattle.patterns.specs.Automaton.{Automaton}
 use Rattle.files.specs.Laying.{laid}
+use Rattle.files.specs.Layout.{heading_bytes}
 use Rattle.files.proofs.Laying.{put_laid, laid_behind}
+use Rattle.files.proofs.Fitting.{lent_formed}
 use Rattle.files.proofs.writing.lay_heading.Goals as goal
 
 eight_bytes : (x : ℕ)
@@ -33,14 +35,25 @@ module _ (old one two three four first second third last : List ℕ)
       ∙ laid_behind old (first ++ second) third 0 6 (omega arith) (omega arith))
       ∙ laid_behind old ((first ++ second) ++ third) last 0 14 (omega arith) (omega arith)
 
+pub overflow_cast-states : goal.overflow_cast-states
+overflow_cast-states c =
+    let n = (lent_formed c.args.pattern.now c.parts-parts.result c.parts-parts.ensures).few_states in
+    search rules
+
+pub overflow_cast-rows : goal.overflow_cast-rows
+overflow_cast-rows c =
+    let N = (lent_formed c.args.pattern.now c.parts-parts.result c.parts-parts.ensures).few_rows in
+    search rules
+
 pub returns : goal.returns
 returns c =
-    let parts = c.args.parts in
-    let A = read parts in
+    let parts = c.parts-parts.result in
+    let e = c.parts-parts.ensures in
+    let F = lent_formed c.args.pattern.now parts e in
     let old = c.args.payload.now in
-    let n = c.requires.formed.few_states in
-    let m = c.requires.formed.few_signals in
-    let s = c.requires.formed.starts in
+    let n = F.few_states in
+    let m = F.few_signals in
+    let s = F.starts in
     let small = length parts.roots.now in
     let first : 1 ∷ small ∷ parts.signals ∷ parts.start ∷ [] ≡ bytes_of 1 1 ++ (bytes_of 1 small ++ (bytes_of 1 parts.signals ++ bytes_of 1 parts.start)) =
     let p : small ≡ small % 256 = omega arith in
@@ -61,3 +74,4 @@ returns c =
     ∙ put_laid 6 8 two (bytes_of 8 parts.finals) refl)
     (ap (put_mid 14 2 three) c.copy_from_slice-4.ensures.after ∙ put_laid 14 2 three (bytes_of 2 0) refl)
     refl refl refl
+    ∙ ap (λ (A : Automaton). laid 0 (heading_bytes A) old) e

@@ -1,22 +1,25 @@
-use Rattle.std.proofs.Common.{length, refl}
+use Rattle.std.proofs.Common.{◌≡◌, length, Some, None, MatchResult, ap, ◌∙◌, subst}
 use Rattle.std.proofs.lemmas.Result.{err_from_is_err_and}
-use Rattle.patterns.specs.Automaton.{read}
+use Rattle.patterns.specs.Automaton.{Automaton, read}
+use Rattle.patterns.specs.Questions.{judged}
+use Rattle.patterns.specs.View.{automaton}
+use Rattle.files.specs.Layout.{file_of}
+use Rattle.files.specs.Questions.{write_fault}
 use Rattle.files.proofs.Fitting.{pattern_refused, room_asked}
 use Rattle.files.proofs.writing.write_pattern.Goals as goal
 
-pub returns-in_err-check : goal.returns-in_err-check
-returns-in_err-check c =
+pub returns-in_err-checked-clause-cases : goal.returns-in_err-checked-clause-cases
+returns-in_err-checked-clause-cases c =
     let p = err_from_is_err_and c.from_residual.result c.from_residual.ensures.1 in
-    let e = c.in_err-check.ensures.cases in
-    record {
-      cases = rw (p.1, p.2) (pattern_refused (read c.args.parts) (length c.args.buffer.now) _ e);
-      after = rw p.1 refl;
-      again = rw p.1 tt;
-    }
+    rw (p.1, p.2) (pattern_refused (read c.args.parts) (length c.args.buffer.now) _ c.in_err-checked.ensures)
 
-pub returns : goal.returns
-returns c = record {
-  cases = room_asked (read c.args.parts) (length c.args.buffer.now) c.write_formed.result c.in_ok-check.ensures.cases c.write_formed.ensures.value;
-  after = c.write_formed.ensures.after;
-  again = c.write_formed.ensures.again;
-}
+pub returns-clause-cases : goal.returns-clause-cases
+returns-clause-cases c =
+    let room = length c.args.buffer.now in
+    let r = c.write_formed.result in
+    let A = automaton c.seal-pattern.result in
+    let checked = c.in_ok-checked.ensures in
+    let none : judged A ≡ None = ap (λ (B : Automaton). judged B) c.seal-pattern.ensures ∙ checked.1 in
+    subst (λ (B : Automaton). MatchResult r (λ n. (write_fault B room ≡ None) × (n ≡ length (file_of B))) (λ f. write_fault B room ≡ Some f))
+    (c.seal-pattern.ensures ∙ checked.0)
+    (room_asked A room r none c.write_formed.ensures.value)
