@@ -5,6 +5,7 @@ use checks::states::Progress;
 use kinds::{Kind, Move};
 use search::{Find, Tally, Verdict};
 use sets::States;
+use std::fmt::Debug;
 use std::process::Abort;
 use std::test::Fail;
 use stores::Store;
@@ -59,22 +60,16 @@ pub(crate) fn records<K: Kind>(
     kind: &K,
     table: &[Find<K::Config>],
     rows: &[Find<K::Config>],
-) -> Result<(), Fail> {
+)
+where
+    K::Config: PartialEq + Debug,
+{
     for (i, row) in rows.iter().enumerate() {
-        let find = progress.look(kind, table, i)?;
-        let x = find.configuration;
-        let y = row.configuration;
-        assert!(rt; kind.within(x, y) && kind.within(y, x), "configuration {i}");
-        assert_eq!(rt;
-            (find.origin, find.via, find.length),
-            (row.origin, row.via, row.length),
-            "row {i}"
-        );
+        assert_eq!(rt; progress.look(kind, table, i), Ok(*row), "row {i}");
     }
     for row in [rows.len(), usize::MAX] {
-        refuses_look(rt, progress, kind, table, row, 13)?;
+        refuses_look(rt, progress, kind, table, row, 13);
     }
-    Ok(())
 }
 
 // Sees that looking at the row is refused under this number.
@@ -85,14 +80,14 @@ pub(crate) fn refuses_look<K: Kind>(
     table: &[Find<K::Config>],
     row: usize,
     number: u8,
-) -> Result<(), Fail> {
-    match progress.look(kind, table, row) {
-        Ok(_) => Err(Fail::new(format_args!("row {row}: not refused"))),
-        Err(refused) => {
-            assert_eq!(rt; (refused.number(), refused.place()), (number, 0));
-            Ok(())
-        },
-    }
+)
+where
+    K::Config: PartialEq + Debug,
+{
+    let refusal = progress
+        .look(kind, table, row)
+        .map_err(|refused| (refused.number(), refused.place()));
+    assert_eq!(rt; refusal, Err((number, 0)), "row {row}");
 }
 
 // A tally of a check that recorded one first configuration.

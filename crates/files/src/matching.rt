@@ -31,6 +31,8 @@ pub fn file_accepts(
     Ok(accepted)
 }
 
+// The same, and what is proved of it. The call above only hands the answer on.
+// Stays: (a) a rule of the project has a wrong answer refused at the code itself: in one function its proof would fail.
 fn read_and_match(
     file: &[u8],
     events: &[Event],

@@ -158,6 +158,7 @@ fn check_roots(reader: &mut Reader, states: usize, count: usize) -> Result<(), F
         × (rest reader.new ≡ drop (2 * states) (rest reader.old)))
         (λ f. roots_fault count 0 (each 2 root_of states (rest reader.old)) ≡ Some f) }
 {
+    // Stays: (d) the roots come out of the reader one by one, and a chain would have to change what it captures.
     for q in 0..states {
         let root = next_word(reader);
         if root as usize >= count {

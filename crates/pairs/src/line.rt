@@ -3,16 +3,21 @@ ghost use Rattle.std.specs.Prelude.{◌≡◌, IfOk, Some, string_bytes};
 ghost use Rattle.pairs.specs.Refusals.{pair_line_of};
 
 use crate::fault::FilesFault;
+use files::line::Refused;
 use std::alloc::{AllocError, Global};
 use std::fmt;
 
-// "refused", the number, the layer and the place of the fault.
+// A fault of two files prints as the line of its refusal.
 impl fmt::Display for FilesFault {
     ghost output = { λ fault. Some (pair_line_of fault) };
 
     fn fmt<W: fmt::Write>(&self, f: &mut fmt::Formatter<W>) -> fmt::Result {
-        let (number, layer, place) = (self.number(), self.layer(), self.place());
-        write!(f, "refused {number} {layer} {place}")
+        let refused = Refused {
+            number: self.number(),
+            layer: self.layer(),
+            place: self.place(),
+        };
+        refused.fmt(f)
     }
 }
 

@@ -30,7 +30,7 @@ pub enum Call {
 }
 
 // What a call answers that is not refused.
-#[derive(Clone, Copy)]
+#[derive(Clone, Copy, PartialEq, Eq, Debug)]
 pub enum Reply<C> {
     // The verdict, if there is one, once the queries were made. A check that has a verdict already makes none.
     Advanced(Option<Verdict>),
@@ -39,7 +39,7 @@ pub enum Reply<C> {
 }
 
 // A call, and what it answered, if it was made.
-#[derive(Clone, Copy)]
+#[derive(Clone, Copy, PartialEq, Eq, Debug)]
 pub struct Step<C> {
     pub call: Call,
     pub answer: Option<Result<Reply<C>, Refused>>,
