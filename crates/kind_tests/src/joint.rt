@@ -1,9 +1,11 @@
 // The joint kind, and what is answered to lists of its configurations.
-use crate::tables::{difference, wide};
+use crate::calls::{Answers, number_and_place, works_back};
+use crate::tables::{difference, unstarted, wide};
 use inspections::fault::InspectionFault;
 use inspections::{inspect_joint, inspect_pattern};
 use inspector::answers::Inspection;
 use joint_kinds::fault::JointFault;
+use joint_kinds::joint::Joint;
 use joint_kinds::parts::JointParts;
 use kind_shapes::JointConfig;
 use kinds::{Kind, Move};
@@ -13,12 +15,21 @@ use models::model::Model;
 use patterns::examples::latch;
 use patterns::fault::Fault;
 use patterns::parts::Parts;
-use sets::{Event, States};
+use sets::States;
 use std::process::Abort;
 use std::test::Fail;
 
 fn at(state: u8, set: States) -> JointConfig {
     JointConfig { state, set }
+}
+
+// The kind of the pattern with the model.
+fn joint<'a>(pattern: Parts<'a>, model: Model<'a>) -> Result<Joint<'a>, Fail> {
+    let parts = JointParts { pattern, model };
+    let checked = parts
+        .checked()
+        .map_err(|_| Fail::new("the parts are refused"))?;
+    Ok(checked.seal())
 }
 
 static FREE: [Arrow; 1] = [Arrow {
@@ -76,161 +87,49 @@ fn door(ends: States) -> Model<'static> {
     }
 }
 
-// A configuration: whether it fits LATCH with the door, whether it is a goal, and whether it is within state 1 with the
-// set of state 0.
-#[derive(Clone, Copy)]
-struct Place {
-    config: JointConfig,
-    fits: bool,
-    goal: bool,
-    within: bool,
-}
-
+// LATCH with the door, and what is within state 1 with the set of state 0.
 #[test]
 fn places(rt: HostRuntime) -> Result<(), Fail> {
-    let cases = [
-        Place {
-            config: at(0, 0),
-            fits: true,
-            goal: false,
-            within: false,
-        },
-        Place {
-            config: at(0, 1),
-            fits: true,
-            goal: true,
-            within: false,
-        },
-        Place {
-            config: at(0, 3),
-            fits: true,
-            goal: true,
-            within: false,
-        },
-        Place {
-            config: at(1, 0),
-            fits: true,
-            goal: false,
-            within: true,
-        },
-        Place {
-            config: at(1, 1),
-            fits: true,
-            goal: false,
-            within: true,
-        },
-        Place {
-            config: at(1, 2),
-            fits: true,
-            goal: false,
-            within: false,
-        },
-        Place {
-            config: at(1, 3),
-            fits: true,
-            goal: false,
-            within: false,
-        },
-        Place {
-            config: at(2, 0),
-            fits: false,
-            goal: false,
-            within: false,
-        },
-        Place {
-            config: at(255, 1),
-            fits: false,
-            goal: false,
-            within: false,
-        },
-        Place {
-            config: at(1, 4),
-            fits: false,
-            goal: false,
-            within: false,
-        },
-        Place {
-            config: at(0, 5),
-            fits: false,
-            goal: true,
-            within: false,
-        },
+    let fitting = [
+        at(0, 0),
+        at(0, 1),
+        at(0, 3),
+        at(1, 0),
+        at(1, 1),
+        at(1, 2),
+        at(1, 3),
     ];
-    let parts = JointParts {
-        pattern: latch(),
-        model: door(2),
+    let unfit = [at(2, 0), at(255, 1), at(1, 4), at(0, 5)];
+    let kind = joint(latch(), door(2))?;
+    let answers = Answers {
+        fitting: &fitting,
+        unfit: &unfit,
+        goals: &[at(0, 1), at(0, 3), at(0, 5)],
+        top: at(1, 1),
+        within: &[at(1, 0), at(1, 1)],
     };
-    let Ok(checked) = parts.checked() else {
-        assert!(rt; false);
-        return Ok(());
-    };
-    let kind = checked.seal();
-    for (i, case) in cases.iter().enumerate() {
-        let config = case.config;
-        assert!(rt; kind.fits(config) == case.fits, "fits, case {i}");
-        assert!(rt; kind.goal(config) == case.goal, "goal, case {i}");
-        assert!(rt;
-            kind.within(config, at(1, 1)) == case.within,
-            "within, case {i}"
-        );
-    }
+    answers.are_given(&rt, &kind);
     Ok(())
 }
 
 // First configurations come in ascending order of the end states, 0 and 63 among them, and there are no more.
 #[test]
 fn firsts_ascend(rt: HostRuntime) -> Result<(), Fail> {
-    let parts = JointParts {
-        pattern: difference(),
-        model: Model {
-            states: 64,
-            start: 5,
-            ends: 0x8000_0000_0000_0025,
-            arrows: &[],
-        },
+    let model = Model {
+        states: 64,
+        start: 5,
+        ends: 0x8000_0000_0000_0025,
+        arrows: &[],
     };
-    let Ok(checked) = parts.checked() else {
-        assert!(rt; false);
-        return Ok(());
-    };
-    let kind = checked.seal();
-    assert!(rt; kind.first_count() == 4 && kind.moves() == 0);
+    let kind = joint(difference(), model)?;
+    assert_eq!(rt; (kind.first_count(), kind.moves()), (4, 0));
     let states: [u8; 4] = [0, 2, 5, 63];
     for (i, state) in states.iter().enumerate() {
-        assert!(rt; kind.first(i) == Some(at(*state, 12)), "first {i}");
+        assert_eq!(rt; kind.first(i), Some(at(*state, 12)), "first {i}");
     }
-    assert!(rt; kind.first(4) == None && kind.first(0xffff_ffff_ffff_ffff) == None);
-    assert!(rt; kind.back(0, at(0, 12)) == None);
-    Ok(())
-}
-
-// A move worked back from y.
-#[derive(Clone, Copy)]
-struct Step {
-    k: Move,
-    y: JointConfig,
-    x: Option<JointConfig>,
-}
-
-// Whether the two have so many moves, the last of them for this event, and work them back so.
-fn works_back<'a>(
-    rt: &impl Abort,
-    pattern: Parts<'a>,
-    model: Model<'a>,
-    moves: Move,
-    last: Event,
-    steps: &[Step],
-) -> Result<(), Fail> {
-    let parts = JointParts { pattern, model };
-    let Ok(checked) = parts.checked() else {
-        assert!(rt; false);
-        return Ok(());
-    };
-    let kind = checked.seal();
-    assert!(rt; kind.moves() == moves && kind.event(moves.saturating_sub(1)) == last);
-    for (i, step) in steps.iter().enumerate() {
-        assert!(rt; kind.back(step.k, step.y) == step.x, "step {i}");
-    }
+    assert_eq!(rt; kind.first(4), None);
+    assert_eq!(rt; kind.first(usize::MAX), None);
+    assert_eq!(rt; kind.back(0, at(0, 12)), None);
     Ok(())
 }
 
@@ -238,109 +137,34 @@ fn works_back<'a>(
 #[test]
 fn steps_of_a_door(rt: HostRuntime) -> Result<(), Fail> {
     let steps = [
-        Step {
-            k: 0,
-            y: at(1, 2),
-            x: Some(at(0, 0)),
-        },
-        Step {
-            k: 1,
-            y: at(1, 2),
-            x: None,
-        },
-        Step {
-            k: 0,
-            y: at(0, 2),
-            x: None,
-        },
-        Step {
-            k: 3,
-            y: at(0, 2),
-            x: Some(at(1, 3)),
-        },
-        Step {
-            k: 2,
-            y: at(0, 2),
-            x: None,
-        },
-        Step {
-            k: 3,
-            y: at(1, 2),
-            x: None,
-        },
-        Step {
-            k: 4,
-            y: at(0, 2),
-            x: None,
-        },
-        Step {
-            k: 0xffff_ffff_ffff_ffff,
-            y: at(0, 2),
-            x: None,
-        },
+        (0, at(1, 2), Some(at(0, 0))),
+        (1, at(1, 2), None),
+        (0, at(0, 2), None),
+        (3, at(0, 2), Some(at(1, 3))),
+        (2, at(0, 2), None),
+        (3, at(1, 2), None),
+        (4, at(0, 2), None),
+        (Move::MAX, at(0, 2), None),
     ];
-    works_back(&rt, latch(), door(2), 4, 1, &steps)
+    works_back(&rt, &joint(latch(), door(2))?, 4, 1, &steps);
+    Ok(())
 }
 
 // 256 arrows over 16 signals make 2^24 moves, of which the last arrow's have the highest numbers.
 #[test]
 fn most_arrows(rt: HostRuntime) -> Result<(), Fail> {
     let steps = [
-        Step {
-            k: 16744448,
-            y: at(5, 1),
-            x: Some(at(3, 1)),
-        },
-        Step {
-            k: 16777214,
-            y: at(5, 0),
-            x: Some(at(3, 1)),
-        },
-        Step {
-            k: 16777215,
-            y: at(5, 1),
-            x: None,
-        },
-        Step {
-            k: 16744447,
-            y: at(5, 1),
-            x: None,
-        },
-        Step {
-            k: 16744448,
-            y: at(0, 1),
-            x: None,
-        },
-        Step {
-            k: 16744448,
-            y: at(3, 1),
-            x: None,
-        },
-        Step {
-            k: 16777216,
-            y: at(5, 1),
-            x: None,
-        },
-        Step {
-            k: 0,
-            y: at(0, 1),
-            x: Some(at(0, 0)),
-        },
-        Step {
-            k: 32768,
-            y: at(0, 0),
-            x: Some(at(0, 1)),
-        },
-        Step {
-            k: 16711679,
-            y: at(0, 0),
-            x: Some(at(0, 1)),
-        },
-        Step {
-            k: 0,
-            y: at(5, 1),
-            x: None,
-        },
+        (16744448, at(5, 1), Some(at(3, 1))),
+        (16777214, at(5, 0), Some(at(3, 1))),
+        (16777215, at(5, 1), None),
+        (16744447, at(5, 1), None),
+        (16744448, at(0, 1), None),
+        (16744448, at(3, 1), None),
+        (16777216, at(5, 1), None),
+        (0, at(0, 1), Some(at(0, 0))),
+        (32768, at(0, 0), Some(at(0, 1))),
+        (16711679, at(0, 0), Some(at(0, 1))),
+        (0, at(5, 1), None),
     ];
     let mut arrows = [FREE[0]; 256];
     arrows[255] = Arrow {
@@ -355,10 +179,11 @@ fn most_arrows(rt: HostRuntime) -> Result<(), Fail> {
         ends: 0x20,
         arrows: &arrows,
     };
-    works_back(&rt, wide(), model, 16_777_216, 65_535, &steps)
+    works_back(&rt, &joint(wide(), model)?, 16_777_216, 65_535, &steps);
+    Ok(())
 }
 
-// Whether the list is answered so, for LATCH with the model.
+// Sees that the list is answered so, for LATCH with the model.
 fn found(rt: &impl Abort, model: Model, list: &[JointConfig], answer: Inspection) {
     assert_eq!(rt; inspect_joint(latch(), model, list), Ok(answer));
 }
@@ -411,7 +236,7 @@ fn doors(rt: HostRuntime) {
     found(&rt, door(3), &[at(0, 0), at(1, 3)], Inspection::Passed);
 }
 
-// Whether the inspection is refused under this number and place.
+// Sees that the inspection is refused under this number at this place.
 fn refused(
     rt: &impl Abort,
     parts: Parts,
@@ -419,17 +244,9 @@ fn refused(
     list: &[JointConfig],
     number: u8,
     place: usize,
-) -> Result<(), Fail> {
-    match inspect_joint(parts, model, list) {
-        Ok(_) => {
-            assert!(rt; false);
-            Ok(())
-        },
-        Err(fault) => {
-            assert!(rt; fault.number() == number && fault.place() == place);
-            Ok(())
-        },
-    }
+) {
+    let answer = inspect_joint(parts, model, list);
+    assert_eq!(rt; answer.map_err(number_and_place), Err((number, place)));
 }
 
 // An arrow over a signal that LATCH does not have.
@@ -450,11 +267,7 @@ static BEYOND: [Arrow; 2] = [
 
 // The pattern is asked first, then the model, then the list. A mask too wide for one signal is none for sixteen.
 #[test]
-fn refusals(rt: HostRuntime) -> Result<(), Fail> {
-    let unstarted = Parts {
-        start: 2,
-        ..latch()
-    };
+fn refusals(rt: HostRuntime) {
     let stray = Model {
         start: 2,
         ..door(3)
@@ -463,12 +276,12 @@ fn refusals(rt: HostRuntime) -> Result<(), Fail> {
         arrows: &BEYOND,
         ..door(3)
     };
-    refused(&rt, unstarted, stray, &[at(9, 9)], 2, 0)?;
-    refused(&rt, latch(), stray, &[at(9, 9)], 7, 0)?;
-    refused(&rt, latch(), wider, &[at(9, 9)], 8, 1)?;
-    refused(&rt, wide(), wider, &[at(0, 0), at(2, 0)], 19, 1)?;
-    refused(&rt, latch(), door(3), &[at(0, 0), at(1, 4)], 19, 1)?;
-    refused(&rt, latch(), door(3), &[at(0, 8), at(2, 0)], 19, 0)?;
+    refused(&rt, unstarted(), stray, &[at(9, 9)], 2, 0);
+    refused(&rt, latch(), stray, &[at(9, 9)], 7, 0);
+    refused(&rt, latch(), wider, &[at(9, 9)], 8, 1);
+    refused(&rt, wide(), wider, &[at(0, 0), at(2, 0)], 19, 1);
+    refused(&rt, latch(), door(3), &[at(0, 0), at(1, 4)], 19, 1);
+    refused(&rt, latch(), door(3), &[at(0, 8), at(2, 0)], 19, 0);
     refused(
         &rt,
         latch(),
@@ -476,11 +289,10 @@ fn refusals(rt: HostRuntime) -> Result<(), Fail> {
         &[at(0, 0), at(0, 0), at(2, 0)],
         19,
         2,
-    )?;
-    refused(&rt, latch(), door(3), &[at(9, 9); 4_097], 18, 0)?;
+    );
+    refused(&rt, latch(), door(3), &[at(9, 9); 4_097], 18, 0);
     let arrow = InspectionFault::Tables(JointFault::Model(ModelFault::Arrow(1)));
     assert_eq!(rt; inspect_joint(latch(), wider, &[]), Err(arrow));
     let negation = JointFault::Pattern(Fault::Negation(9));
-    assert!(rt; negation.number() == 6 && negation.place() == 9);
-    Ok(())
+    assert_eq!(rt; (negation.number(), negation.place()), (6, 9));
 }

@@ -1,5 +1,6 @@
 // The pattern kind by itself, and what is answered to lists of sets.
-use crate::tables::{difference, stuck, wide};
+use crate::calls::{Answers, number_and_place, works_back};
+use crate::tables::{difference, stuck, unstarted, wide};
 use inspections::fault::InspectionFault;
 use inspections::inspect_pattern;
 use inspector::answers::{Inspection, Refused};
@@ -9,106 +10,34 @@ use pattern_kinds::pattern::Single;
 use patterns::examples::latch;
 use patterns::fault::Fault;
 use patterns::parts::Parts;
-use sets::{Event, States};
+use sets::States;
 use std::process::Abort;
 use std::test::Fail;
 
-// A set of states: whether it fits LATCH, whether it is a goal, and whether it is within the set of state 0.
-#[derive(Clone, Copy)]
-struct Set {
-    set: States,
-    fits: bool,
-    goal: bool,
-    within: bool,
+// The kind of the pattern by itself.
+// Stays: the tests of patterns check parts in the same two lines, and go on with what they are checked for.
+fn single<'a>(parts: Parts<'a>) -> Result<Single<'a>, Fail> {
+    let checked = parts
+        .checked()
+        .map_err(|_| Fail::new("the parts are refused"))?;
+    Ok(Single::new(checked.seal()))
 }
 
+// LATCH, and what is within the set of state 0.
 #[test]
 fn sets_of_latch(rt: HostRuntime) -> Result<(), Fail> {
-    let cases = [
-        Set {
-            set: 0,
-            fits: true,
-            goal: false,
-            within: true,
-        },
-        Set {
-            set: 1,
-            fits: true,
-            goal: true,
-            within: true,
-        },
-        Set {
-            set: 2,
-            fits: true,
-            goal: false,
-            within: false,
-        },
-        Set {
-            set: 3,
-            fits: true,
-            goal: true,
-            within: false,
-        },
-        Set {
-            set: 4,
-            fits: false,
-            goal: false,
-            within: false,
-        },
-        Set {
-            set: 5,
-            fits: false,
-            goal: true,
-            within: false,
-        },
-        Set {
-            set: 0x8000_0000_0000_0000,
-            fits: false,
-            goal: false,
-            within: false,
-        },
-    ];
-    let Ok(checked) = latch().checked() else {
-        assert!(rt; false);
-        return Ok(());
+    let kind = single(latch())?;
+    let answers = Answers {
+        fitting: &[0, 1, 2, 3],
+        unfit: &[4, 5, 0x8000_0000_0000_0000],
+        goals: &[1, 3, 5],
+        top: 1,
+        within: &[0, 1],
     };
-    let kind = Single::new(checked.seal());
-    for (i, case) in cases.iter().enumerate() {
-        let set = case.set;
-        assert!(rt; kind.fits(set) == case.fits, "fits, case {i}");
-        assert!(rt; kind.goal(set) == case.goal, "goal, case {i}");
-        assert!(rt; kind.within(set, 1) == case.within, "within, case {i}");
-    }
-    assert!(rt; kind.first_count() == 1 && kind.first(0) == Some(0));
-    assert!(rt; kind.first(1) == None);
-    Ok(())
-}
-
-// A move worked back from y.
-#[derive(Clone, Copy)]
-struct Step {
-    k: Move,
-    y: States,
-    x: Option<States>,
-}
-
-// Whether the pattern has so many moves, the last of them for this event, and works them back so.
-fn works_back(
-    rt: &impl Abort,
-    parts: Parts,
-    moves: Move,
-    last: Event,
-    steps: &[Step],
-) -> Result<(), Fail> {
-    let Ok(checked) = parts.checked() else {
-        assert!(rt; false);
-        return Ok(());
-    };
-    let kind = Single::new(checked.seal());
-    assert!(rt; kind.moves() == moves && kind.event(moves.saturating_sub(1)) == last);
-    for (i, step) in steps.iter().enumerate() {
-        assert!(rt; kind.back(step.k, step.y) == step.x, "step {i}");
-    }
+    answers.are_given(&rt, &kind);
+    assert_eq!(rt; kind.first_count(), 1);
+    assert_eq!(rt; kind.first(0), Some(0));
+    assert_eq!(rt; kind.first(1), None);
     Ok(())
 }
 
@@ -116,84 +45,29 @@ fn works_back(
 #[test]
 fn steps(rt: HostRuntime) -> Result<(), Fail> {
     let latch_steps = [
-        Step {
-            k: 0,
-            y: 0,
-            x: Some(0),
-        },
-        Step {
-            k: 1,
-            y: 0,
-            x: Some(2),
-        },
-        Step {
-            k: 1,
-            y: 2,
-            x: Some(3),
-        },
-        Step {
-            k: 0,
-            y: 2,
-            x: Some(0),
-        },
-        Step {
-            k: 1,
-            y: 1,
-            x: Some(2),
-        },
-        Step {
-            k: 1,
-            y: 0xffff_ffff_ffff_ffff,
-            x: Some(3),
-        },
-        Step {
-            k: 2,
-            y: 2,
-            x: None,
-        },
-        Step {
-            k: 0xffff_ffff_ffff_ffff,
-            y: 2,
-            x: None,
-        },
+        (0, 0, Some(0)),
+        (1, 0, Some(2)),
+        (1, 2, Some(3)),
+        (0, 2, Some(0)),
+        (1, 1, Some(2)),
+        (1, States::MAX, Some(3)),
+        (2, 2, None),
+        (Move::MAX, 2, None),
     ];
-    works_back(&rt, latch(), 2, 1, &latch_steps)?;
+    works_back(&rt, &single(latch())?, 2, 1, &latch_steps);
     let wide_steps = [
-        Step {
-            k: 0,
-            y: 1,
-            x: Some(0),
-        },
-        Step {
-            k: 32767,
-            y: 1,
-            x: Some(0),
-        },
-        Step {
-            k: 32768,
-            y: 0,
-            x: Some(1),
-        },
-        Step {
-            k: 65535,
-            y: 0,
-            x: Some(1),
-        },
-        Step {
-            k: 65536,
-            y: 1,
-            x: None,
-        },
-        Step {
-            k: 98304,
-            y: 1,
-            x: None,
-        },
+        (0, 1, Some(0)),
+        (32767, 1, Some(0)),
+        (32768, 0, Some(1)),
+        (65535, 0, Some(1)),
+        (65536, 1, None),
+        (98304, 1, None),
     ];
-    works_back(&rt, wide(), 65_536, 65_535, &wide_steps)
+    works_back(&rt, &single(wide())?, 65_536, 65_535, &wide_steps);
+    Ok(())
 }
 
-// Whether the list is answered so.
+// Sees that the list is answered so.
 fn found(rt: &impl Abort, parts: Parts, list: &[States], answer: Inspection) {
     assert_eq!(rt; inspect_pattern(parts, list), Ok(answer));
 }
@@ -223,7 +97,7 @@ fn stuck_and_latch(rt: HostRuntime) {
     found(&rt, latch(), &[3], Inspection::Goal(0));
 }
 
-// Whether the inspection is refused so, under this number and place.
+// Sees that the inspection is refused so, under this number at this place.
 fn refused(
     rt: &impl Abort,
     parts: Parts,
@@ -233,18 +107,14 @@ fn refused(
     place: usize,
 ) {
     assert_eq!(rt; inspect_pattern(parts, list), Err(fault));
-    assert!(rt; fault.number() == number && fault.place() == place);
+    assert_eq!(rt; number_and_place(fault), (number, place));
 }
 
 // The tables are asked first, then the list's length and each entry.
 #[test]
 fn refusals(rt: HostRuntime) {
-    let unstarted = Parts {
-        start: 2,
-        ..latch()
-    };
     let ends = InspectionFault::Tables(JointFault::Pattern(Fault::Ends));
-    refused(&rt, unstarted, &[9; 4_097], ends, 2, 0);
+    refused(&rt, unstarted(), &[9; 4_097], ends, 2, 0);
     let few_roots = Parts {
         roots: &[2, 9],
         ..latch()

@@ -1,4 +1,5 @@
 // Patterns worked out by hand, beside LATCH.
+use patterns::examples::latch;
 use patterns::parts::Parts;
 use patterns::row::{Operation, Row};
 
@@ -35,6 +36,7 @@ pub(crate) fn stuck() -> Parts<'static> {
 
 static DIFFERENCE_ROOTS: [u16; 5] = [2, 0, 8, 4, 9];
 
+// Stays: a constant's row names its operation like the others, which `Row::default()` would not.
 static DIFFERENCE_ROWS: [Row; 10] = [
     Row {
         operation: Operation::Signal as u8,
@@ -109,6 +111,7 @@ static WIDE_ROWS: [Row; 1] = [Row {
 }];
 
 // One state over 16 signals, final, that asks for the last signal.
+// Stays: like `stuck` and `difference` in form alone, as constants of one struct are.
 pub(crate) fn wide() -> Parts<'static> {
     Parts {
         signals: 16,
@@ -116,5 +119,13 @@ pub(crate) fn wide() -> Parts<'static> {
         finals: 1,
         roots: &WIDE_ROOTS,
         rows: &WIDE_ROWS,
+    }
+}
+
+// LATCH with a start that is none of its states.
+pub(crate) fn unstarted() -> Parts<'static> {
+    Parts {
+        start: 2,
+        ..latch()
     }
 }

@@ -4,6 +4,7 @@
 #[cfg(test)]
 mod tests {
     use models::arrow::Arrow;
+    use models::fault::ModelFault;
     use models::model::Model;
     use sets::{Event, States};
     use std::test::Fail;
@@ -15,139 +16,67 @@ mod tests {
         value: 0,
     };
 
-    // Whether the model is refused under this number and place, or meets every question where the number is 0.
-    fn answers(model: Model, signals: u8, number: u8, place: usize) -> bool {
-        match model.check(signals) {
-            Ok(()) => number == 0 && place == 0,
-            Err(fault) => fault.number() == number && fault.place() == place,
+    fn arrow(from: u8, to: u8, mask: Event, value: Event) -> Arrow {
+        Arrow {
+            from,
+            to,
+            mask,
+            value,
         }
     }
 
-    // Whether the model meets every question, and answers so to the events.
-    fn sends(model: Model, signals: u8, events: &[Event], answer: bool) -> bool {
-        match model.sends(signals, events) {
-            Ok(sent) => sent == answer,
-            Err(_) => false,
-        }
+    // A model meets every question, or is refused under a number at a place.
+    type Answer = Result<(), (u8, usize)>;
+
+    fn number_and_place(fault: ModelFault) -> (u8, usize) {
+        (fault.number(), fault.place())
     }
 
-    #[derive(Clone, Copy)]
-    struct Size {
-        states: u8,
-        start: u8,
-        ends: States,
-        number: u8,
+    // Asks the model every question.
+    fn check(model: Model, signals: u8) -> Answer {
+        model.check(signals).map_err(number_and_place)
+    }
+
+    // Whether the model, which meets every question, sends the events.
+    fn sends(model: Model, signals: u8, events: &[Event]) -> Result<bool, Fail> {
+        model
+            .sends(signals, events)
+            .map_err(|_| Fail::new("the model is refused"))
     }
 
     #[test]
     fn sizes(rt: HostRuntime) {
         let cases = [
-            Size {
-                states: 0,
-                start: 0,
-                ends: 0,
-                number: 7,
-            },
-            Size {
-                states: 1,
-                start: 0,
-                ends: 0,
-                number: 0,
-            },
-            Size {
-                states: 1,
-                start: 0,
-                ends: 1,
-                number: 0,
-            },
-            Size {
-                states: 64,
-                start: 63,
-                ends: 0x8000_0000_0000_0000,
-                number: 0,
-            },
-            Size {
-                states: 64,
-                start: 0,
-                ends: 0xffff_ffff_ffff_ffff,
-                number: 0,
-            },
-            Size {
-                states: 65,
-                start: 0,
-                ends: 0,
-                number: 7,
-            },
-            Size {
-                states: 255,
-                start: 0,
-                ends: 0,
-                number: 7,
-            },
-            Size {
-                states: 1,
-                start: 1,
-                ends: 1,
-                number: 7,
-            },
-            Size {
-                states: 63,
-                start: 62,
-                ends: 0x7fff_ffff_ffff_ffff,
-                number: 0,
-            },
-            Size {
-                states: 63,
-                start: 63,
-                ends: 0,
-                number: 7,
-            },
-            Size {
-                states: 64,
-                start: 64,
-                ends: 0,
-                number: 7,
-            },
-            Size {
-                states: 64,
-                start: 255,
-                ends: 0,
-                number: 7,
-            },
-            Size {
-                states: 1,
-                start: 0,
-                ends: 2,
-                number: 7,
-            },
-            Size {
-                states: 63,
-                start: 0,
-                ends: 0x8000_0000_0000_0000,
-                number: 7,
-            },
+            (0, 0, 0, Err((7, 0))),
+            (1, 0, 0, Ok(())),
+            (1, 0, 1, Ok(())),
+            (64, 63, 0x8000_0000_0000_0000, Ok(())),
+            (64, 0, 0xffff_ffff_ffff_ffff, Ok(())),
+            (65, 0, 0, Err((7, 0))),
+            (255, 0, 0, Err((7, 0))),
+            (1, 1, 1, Err((7, 0))),
+            (63, 62, 0x7fff_ffff_ffff_ffff, Ok(())),
+            (63, 63, 0, Err((7, 0))),
+            (64, 64, 0, Err((7, 0))),
+            (64, 255, 0, Err((7, 0))),
+            (1, 0, 2, Err((7, 0))),
+            (63, 0, 0x8000_0000_0000_0000, Err((7, 0))),
             // The start and an end state are wrong at once, and so is the number of states.
-            Size {
-                states: 2,
-                start: 2,
-                ends: 4,
-                number: 7,
-            },
-            Size {
-                states: 0,
-                start: 9,
-                ends: 1,
-                number: 7,
-            },
+            (2, 2, 4, Err((7, 0))),
+            (0, 9, 1, Err((7, 0))),
         ];
-        for (i, case) in cases.iter().enumerate() {
+        for (states, start, ends, expected) in cases {
             let model = Model {
-                states: case.states,
-                start: case.start,
-                ends: case.ends,
+                states,
+                start,
+                ends,
                 arrows: &[],
             };
-            assert!(rt; answers(model, 16, case.number, 0), "case {i}");
+            assert_eq!(rt;
+                check(model, 16),
+                expected,
+                "{states} states, start {start}, ends {ends}"
+            );
         }
         let table = [LOOP; 257];
         let full = Model {
@@ -156,228 +85,62 @@ mod tests {
             ends: 1,
             arrows: &table[0..256],
         };
-        assert!(rt; answers(full, 0, 0, 0));
-        assert!(rt;
-            answers(
-                Model {
-                    arrows: &table,
-                    ..full
-                },
-                0,
-                7,
-                0,
-            )
-        );
-    }
-
-    #[derive(Clone, Copy)]
-    struct Joint {
-        signals: u8,
-        arrow: Arrow,
-        number: u8,
+        assert_eq!(rt; check(full, 0), Ok(()));
+        let longer = Model {
+            arrows: &table,
+            ..full
+        };
+        assert_eq!(rt; check(longer, 0), Err((7, 0)));
     }
 
     // Each arrow is asked alone, and at the first and the last place of a full table of 5 states.
     #[test]
     fn arrows(rt: HostRuntime) {
         let cases = [
-            Joint {
-                signals: 0,
-                arrow: LOOP,
-                number: 0,
-            },
-            Joint {
-                signals: 0,
-                arrow: Arrow {
-                    from: 4,
-                    to: 4,
-                    mask: 0,
-                    value: 0,
-                },
-                number: 0,
-            },
-            Joint {
-                signals: 0,
-                arrow: Arrow {
-                    from: 5,
-                    to: 4,
-                    mask: 0,
-                    value: 0,
-                },
-                number: 8,
-            },
-            Joint {
-                signals: 0,
-                arrow: Arrow {
-                    from: 4,
-                    to: 5,
-                    mask: 0,
-                    value: 0,
-                },
-                number: 8,
-            },
-            Joint {
-                signals: 0,
-                arrow: Arrow {
-                    from: 255,
-                    to: 255,
-                    mask: 0,
-                    value: 0,
-                },
-                number: 8,
-            },
-            Joint {
-                signals: 0,
-                arrow: Arrow {
-                    from: 0,
-                    to: 0,
-                    mask: 1,
-                    value: 0,
-                },
-                number: 8,
-            },
-            Joint {
-                signals: 1,
-                arrow: Arrow {
-                    from: 0,
-                    to: 0,
-                    mask: 1,
-                    value: 1,
-                },
-                number: 0,
-            },
-            Joint {
-                signals: 1,
-                arrow: Arrow {
-                    from: 0,
-                    to: 0,
-                    mask: 2,
-                    value: 0,
-                },
-                number: 8,
-            },
-            Joint {
-                signals: 15,
-                arrow: Arrow {
-                    from: 0,
-                    to: 0,
-                    mask: 0x7fff,
-                    value: 0x7fff,
-                },
-                number: 0,
-            },
-            Joint {
-                signals: 15,
-                arrow: Arrow {
-                    from: 0,
-                    to: 0,
-                    mask: 0x8000,
-                    value: 0,
-                },
-                number: 8,
-            },
-            Joint {
-                signals: 16,
-                arrow: Arrow {
-                    from: 0,
-                    to: 0,
-                    mask: 0xffff,
-                    value: 0x8001,
-                },
-                number: 0,
-            },
-            Joint {
-                signals: 255,
-                arrow: Arrow {
-                    from: 0,
-                    to: 0,
-                    mask: 0xffff,
-                    value: 0,
-                },
-                number: 0,
-            },
-            Joint {
-                signals: 16,
-                arrow: Arrow {
-                    from: 0,
-                    to: 0,
-                    mask: 0,
-                    value: 1,
-                },
-                number: 8,
-            },
-            Joint {
-                signals: 16,
-                arrow: Arrow {
-                    from: 0,
-                    to: 0,
-                    mask: 5,
-                    value: 4,
-                },
-                number: 0,
-            },
-            Joint {
-                signals: 16,
-                arrow: Arrow {
-                    from: 0,
-                    to: 0,
-                    mask: 5,
-                    value: 6,
-                },
-                number: 8,
-            },
-            Joint {
-                signals: 16,
-                arrow: Arrow {
-                    from: 0,
-                    to: 0,
-                    mask: 0x7fff,
-                    value: 0x8000,
-                },
-                number: 8,
-            },
+            (0, LOOP, None),
+            (0, arrow(4, 4, 0, 0), None),
+            (0, arrow(5, 4, 0, 0), Some(8)),
+            (0, arrow(4, 5, 0, 0), Some(8)),
+            (0, arrow(255, 255, 0, 0), Some(8)),
+            (0, arrow(0, 0, 1, 0), Some(8)),
+            (1, arrow(0, 0, 1, 1), None),
+            (1, arrow(0, 0, 2, 0), Some(8)),
+            (15, arrow(0, 0, 0x7fff, 0x7fff), None),
+            (15, arrow(0, 0, 0x8000, 0), Some(8)),
+            (16, arrow(0, 0, 0xffff, 0x8001), None),
+            (255, arrow(0, 0, 0xffff, 0), None),
+            (16, arrow(0, 0, 0, 1), Some(8)),
+            (16, arrow(0, 0, 5, 4), None),
+            (16, arrow(0, 0, 5, 6), Some(8)),
+            (16, arrow(0, 0, 0x7fff, 0x8000), Some(8)),
         ];
-        for (i, case) in cases.iter().enumerate() {
-            let alone = [case.arrow];
+        for (i, (signals, asked, refusal)) in cases.into_iter().enumerate() {
+            let alone = [asked];
             let mut first = [LOOP; 256];
-            first[0] = case.arrow;
+            first[0] = asked;
             let mut last = [LOOP; 256];
-            last[255] = case.arrow;
-            let place = if case.number == 0 { 0 } else { 255 };
+            last[255] = asked;
             let model = Model {
                 states: 5,
                 start: 0,
                 ends: 0,
                 arrows: &alone,
             };
-            assert!(rt;
-                answers(model, case.signals, case.number, 0),
-                "case {i}, alone"
-            );
-            assert!(rt;
-                answers(
-                    Model {
-                        arrows: &first,
-                        ..model
-                    },
-                    case.signals,
-                    case.number,
-                    0,
-                ),
-                "case {i}, first"
-            );
-            assert!(rt;
-                answers(
-                    Model {
-                        arrows: &last,
-                        ..model
-                    },
-                    case.signals,
-                    case.number,
-                    place,
-                ),
-                "case {i}, last"
-            );
+            let expected_at = |place: usize| match refusal {
+                Some(number) => Err((number, place)),
+                None => Ok(()),
+            };
+            assert_eq!(rt; check(model, signals), expected_at(0), "case {i}, alone");
+            let at_first = Model {
+                arrows: &first,
+                ..model
+            };
+            assert_eq!(rt; check(at_first, signals), expected_at(0), "case {i}, first");
+            let at_last = Model {
+                arrows: &last,
+                ..model
+            };
+            assert_eq!(rt; check(at_last, signals), expected_at(255), "case {i}, last");
         }
     }
 
@@ -402,9 +165,9 @@ mod tests {
         value: 2,
     };
 
-    // Whether arrows in a model of 2 states and 2 signals are refused at this place.
-    fn stops(arrows: &[Arrow], place: usize) -> bool {
-        answers(
+    // What a model of 2 states and 2 signals with these arrows is answered.
+    fn check_arrows(arrows: &[Arrow]) -> Answer {
+        check(
             Model {
                 states: 2,
                 start: 1,
@@ -412,14 +175,12 @@ mod tests {
                 arrows,
             },
             2,
-            8,
-            place,
         )
     }
 
-    // Whether sizes are refused, though an arrow is wrong too.
-    fn comes_first(states: u8, start: u8, ends: States) -> bool {
-        answers(
+    // What these sizes are answered, though an arrow is wrong too.
+    fn check_sizes(states: u8, start: u8, ends: States) -> Answer {
+        check(
             Model {
                 states,
                 start,
@@ -427,123 +188,54 @@ mod tests {
                 arrows: &[LOOP, OUTSIDE],
             },
             2,
-            7,
-            0,
         )
     }
 
     // Sizes come before arrows, and of two arrows the earlier, whatever is wrong with each.
     #[test]
     fn two_faults(rt: HostRuntime) {
-        assert!(rt; stops(&[LOOP, STRAY, OUTSIDE], 1));
-        assert!(rt; stops(&[LOOP, OUTSIDE, STRAY], 1));
-        assert!(rt; stops(&[LOOP, LOOP, WIDE, STRAY], 2));
-        assert!(rt; stops(&[STRAY, LOOP, LOOP, WIDE], 0));
-        assert!(rt; comes_first(0, 0, 0));
-        assert!(rt; comes_first(65, 0, 0));
-        assert!(rt; comes_first(2, 2, 0));
-        assert!(rt; comes_first(2, 0, 4));
+        assert_eq!(rt; check_arrows(&[LOOP, STRAY, OUTSIDE]), Err((8, 1)));
+        assert_eq!(rt; check_arrows(&[LOOP, OUTSIDE, STRAY]), Err((8, 1)));
+        assert_eq!(rt; check_arrows(&[LOOP, LOOP, WIDE, STRAY]), Err((8, 2)));
+        assert_eq!(rt; check_arrows(&[STRAY, LOOP, LOOP, WIDE]), Err((8, 0)));
+        assert_eq!(rt; check_sizes(0, 0, 0), Err((7, 0)));
+        assert_eq!(rt; check_sizes(65, 0, 0), Err((7, 0)));
+        assert_eq!(rt; check_sizes(2, 2, 0), Err((7, 0)));
+        assert_eq!(rt; check_sizes(2, 0, 4), Err((7, 0)));
     }
 
-    #[derive(Clone, Copy)]
-    struct Look {
-        mask: Event,
-        value: Event,
-        event: Event,
-        admitted: bool,
-    }
-
+    // Each is a mask, a value and an event.
     #[test]
     fn admits(rt: HostRuntime) {
-        let cases = [
-            Look {
-                mask: 0,
-                value: 0,
-                event: 0,
-                admitted: true,
-            },
-            Look {
-                mask: 0,
-                value: 0,
-                event: 0xffff,
-                admitted: true,
-            },
-            Look {
-                mask: 5,
-                value: 4,
-                event: 4,
-                admitted: true,
-            },
-            Look {
-                mask: 5,
-                value: 4,
-                event: 6,
-                admitted: true,
-            },
-            Look {
-                mask: 5,
-                value: 4,
-                event: 0xfffe,
-                admitted: true,
-            },
-            Look {
-                mask: 5,
-                value: 4,
-                event: 5,
-                admitted: false,
-            },
-            Look {
-                mask: 5,
-                value: 4,
-                event: 0,
-                admitted: false,
-            },
-            Look {
-                mask: 0xffff,
-                value: 0x8001,
-                event: 0x8001,
-                admitted: true,
-            },
-            Look {
-                mask: 0xffff,
-                value: 0x8001,
-                event: 0x8003,
-                admitted: false,
-            },
-            Look {
-                mask: 0x8000,
-                value: 0,
-                event: 0x7fff,
-                admitted: true,
-            },
-            // A value outside its mask admits nothing, its own bits neither.
-            Look {
-                mask: 1,
-                value: 2,
-                event: 2,
-                admitted: false,
-            },
-            Look {
-                mask: 1,
-                value: 2,
-                event: 3,
-                admitted: false,
-            },
-            Look {
-                mask: 0,
-                value: 1,
-                event: 1,
-                admitted: false,
-            },
+        let admitted: [(Event, Event, Event); 7] = [
+            (0, 0, 0),
+            (0, 0, 0xffff),
+            (5, 4, 4),
+            (5, 4, 6),
+            (5, 4, 0xfffe),
+            (0xffff, 0x8001, 0x8001),
+            (0x8000, 0, 0x7fff),
         ];
-        for (i, case) in cases.iter().enumerate() {
-            let arrow = Arrow {
-                from: 255,
-                to: 0,
-                mask: case.mask,
-                value: case.value,
-            };
-            assert!(rt; arrow.admits(case.event) == case.admitted, "case {i}");
+        for (mask, value, event) in admitted {
+            assert!(rt;
+                arrow(255, 0, mask, value).admits(event),
+                "{mask}, {value}, {event}"
+            );
+        }
+        let barred: [(Event, Event, Event); 6] = [
+            (5, 4, 5),
+            (5, 4, 0),
+            (0xffff, 0x8001, 0x8003),
+            // A value outside its mask admits nothing, its own bits neither.
+            (1, 2, 2),
+            (1, 2, 3),
+            (0, 1, 1),
+        ];
+        for (mask, value, event) in barred {
+            assert!(rt;
+                !arrow(255, 0, mask, value).admits(event),
+                "{mask}, {value}, {event}"
+            );
         }
     }
 
@@ -561,8 +253,8 @@ mod tests {
         value: 0,
     };
 
-    // Whether a door that is opened and closed in turn, beside which signal 1 is free, answers so to the events.
-    fn door(start: u8, ends: States, events: &[Event], answer: bool) -> bool {
+    // Whether a door that is opened and closed in turn, beside which signal 1 is free, sends the events.
+    fn door(start: u8, ends: States, events: &[Event]) -> Result<bool, Fail> {
         let arrows = [OPENED, CLOSED];
         sends(
             Model {
@@ -573,53 +265,35 @@ mod tests {
             },
             2,
             events,
-            answer,
         )
     }
 
     #[test]
     fn doors(rt: HostRuntime) -> Result<(), Fail> {
-        assert!(rt; door(0, 1, &[], true));
-        assert!(rt; door(0, 1, &[1, 0], true));
-        assert!(rt; door(0, 1, &[3, 2, 1, 2], true));
-        assert!(rt; door(0, 1, &[1], false));
-        assert!(rt; door(0, 1, &[0, 1], false));
-        assert!(rt; door(0, 1, &[1, 0, 0], false));
+        assert_eq!(rt; door(0, 1, &[])?, true);
+        assert_eq!(rt; door(0, 1, &[1, 0])?, true);
+        assert_eq!(rt; door(0, 1, &[3, 2, 1, 2])?, true);
+        assert_eq!(rt; door(0, 1, &[1])?, false);
+        assert_eq!(rt; door(0, 1, &[0, 1])?, false);
+        assert_eq!(rt; door(0, 1, &[1, 0, 0])?, false);
         // Bits from the number of signals up make no difference.
-        assert!(rt; door(0, 1, &[0xfffd, 0xfff0], true));
-        assert!(rt; door(0, 2, &[1], true));
-        assert!(rt; door(0, 3, &[1], true));
-        assert!(rt; door(1, 1, &[0, 1, 0], true));
-        assert!(rt; door(0, 0, &[], false));
-        assert!(rt; door(0, 0, &[1, 0], false));
+        assert_eq!(rt; door(0, 1, &[0xfffd, 0xfff0])?, true);
+        assert_eq!(rt; door(0, 2, &[1])?, true);
+        assert_eq!(rt; door(0, 3, &[1])?, true);
+        assert_eq!(rt; door(1, 1, &[0, 1, 0])?, true);
+        assert_eq!(rt; door(0, 0, &[])?, false);
+        assert_eq!(rt; door(0, 0, &[1, 0])?, false);
         // The questions come first.
-        let arrows = [
-            OPENED,
-            CLOSED,
-            Arrow {
-                from: 2,
-                to: 0,
-                mask: 0,
-                value: 0,
-            },
-        ];
-        match (Model {
+        let arrows = [OPENED, CLOSED, arrow(2, 0, 0, 0)];
+        let strayed = Model {
             states: 2,
             start: 0,
             ends: 1,
             arrows: &arrows,
-        })
-        .sends(2, &[1, 0])
-        {
-            Ok(_) => {
-                assert!(rt; false);
-                Ok(())
-            },
-            Err(fault) => {
-                assert!(rt; fault.number() == 8 && fault.place() == 2);
-                Ok(())
-            },
-        }
+        };
+        let answer = strayed.sends(2, &[1, 0]);
+        assert_eq!(rt; answer.map_err(number_and_place), Err((8, 2)));
+        Ok(())
     }
 
     const WRONG: Arrow = Arrow {
@@ -643,8 +317,8 @@ mod tests {
         value: 0,
     };
 
-    // Whether a model of 64 states of which the last alone is an end state answers so to the events.
-    fn far(start: u8, arrows: &[Arrow], events: &[Event], answer: bool) -> bool {
+    // Whether a model of 64 states of which the last alone is an end state sends the events.
+    fn far(start: u8, arrows: &[Arrow], events: &[Event]) -> Result<bool, Fail> {
         sends(
             Model {
                 states: 64,
@@ -654,20 +328,20 @@ mod tests {
             },
             1,
             events,
-            answer,
         )
     }
 
     // One event may lead to two states, of which one goes on; and the last of 64 states is one like the others.
     #[test]
-    fn choices(rt: HostRuntime) {
-        assert!(rt; far(0, &[WRONG, RIGHT, LAST], &[1], true));
-        assert!(rt; far(0, &[WRONG, RIGHT, LAST], &[1, 0, 1, 0], true));
-        assert!(rt; far(0, &[WRONG, RIGHT, LAST], &[0, 1], false));
-        assert!(rt; far(0, &[RIGHT, WRONG], &[1], true));
-        assert!(rt; far(0, &[RIGHT, WRONG], &[1, 1], false));
-        assert!(rt; far(0, &[], &[], false));
-        assert!(rt; far(63, &[], &[], true));
-        assert!(rt; far(63, &[], &[0], false));
+    fn choices(rt: HostRuntime) -> Result<(), Fail> {
+        assert_eq!(rt; far(0, &[WRONG, RIGHT, LAST], &[1])?, true);
+        assert_eq!(rt; far(0, &[WRONG, RIGHT, LAST], &[1, 0, 1, 0])?, true);
+        assert_eq!(rt; far(0, &[WRONG, RIGHT, LAST], &[0, 1])?, false);
+        assert_eq!(rt; far(0, &[RIGHT, WRONG], &[1])?, true);
+        assert_eq!(rt; far(0, &[RIGHT, WRONG], &[1, 1])?, false);
+        assert_eq!(rt; far(0, &[], &[])?, false);
+        assert_eq!(rt; far(63, &[], &[])?, true);
+        assert_eq!(rt; far(63, &[], &[0])?, false);
+        Ok(())
     }
 }
