@@ -45,7 +45,7 @@ fn take_firsts<K: Kind, S: Store<K>>(kind: &K, lent: &mut Lent<K::Config, S>) ->
 {
     let rows = lent.table.len();
     let mut finds = 0;
-    // Stays: a kind answers for one number at a time, so this is a range of numbers and no walk over a slice.
+    // Stays: each first configuration changes table, store and count, and a goal ends the walk: a chain would carry all.
     for i in 0..kind.first_count() {
         if let Some(x) = kind.first(i) {
             if !lent.store.covers(kind, x) {

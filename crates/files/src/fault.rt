@@ -79,7 +79,7 @@ impl TableFault {
     pub fn number(self) -> u8
         ensures { result ≡ (refusal self).number }
     {
-        // Stays: (d) the numbers of three layers stand in one list, and a method for each layer would part them.
+        // Stays: the numbers of three layers stand in one list, and a method for each layer would part them.
         match self {
             TableFault::Record(RecordFault::Block(fault)) => fault.number(),
             TableFault::Record(RecordFault::Record(RecordCause::Heading)) => 25,

@@ -12,6 +12,7 @@ use sets::Event;
 
 // Reads a pattern file into the caller's tables and says whether its pattern accepts the events; or the first fault of
 // the file, which leaves the tables as they were.
+// Stays: with both lent slices in a struct, each contract would also have to say that they are still those slices.
 pub fn file_accepts(
     file: &[u8],
     events: &[Event],
@@ -32,7 +33,7 @@ pub fn file_accepts(
 }
 
 // The same, and what is proved of it. The call above only hands the answer on.
-// Stays: (a) a rule of the project has a wrong answer refused at the code itself: in one function its proof would fail.
+// Stays: a rule of the project has a wrong answer refused at the code itself: in one function its proof would fail.
 fn read_and_match(
     file: &[u8],
     events: &[Event],

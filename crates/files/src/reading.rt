@@ -23,6 +23,7 @@ pub const MAX_FILE: usize = 6_656;
 // Reads a pattern file into the caller's tables: its roots and its rows go to their fronts, and what lies behind stays.
 // Every question is asked before a table is written, so a refusal leaves both as they were. The answer is the file's
 // heading. A file that is read is the one that writing its pattern gives, byte by byte.
+// Stays: with both lent slices in a struct, each contract would also have to say that they are still those slices.
 pub fn read_pattern(file: &[u8], roots: &mut [u16], rows: &mut [Row]) -> Result<Heading, TableFault>
     ensures cases { MatchResult result
         (λ h. (read_fault file.now (length roots.old) (length rows.old) ≡ None)
@@ -158,7 +159,7 @@ fn check_roots(reader: &mut Reader, states: usize, count: usize) -> Result<(), F
         × (rest reader.new ≡ drop (2 * states) (rest reader.old)))
         (λ f. roots_fault count 0 (each 2 root_of states (rest reader.old)) ≡ Some f) }
 {
-    // Stays: (d) the roots come out of the reader one by one, and a chain would have to change what it captures.
+    // Stays: the roots come out of the reader one by one, and a chain would have to change what it captures.
     for q in 0..states {
         let root = next_word(reader);
         if root as usize >= count {

@@ -9,6 +9,7 @@ use stores::Store;
 
 // Writes every row's configuration that the store holds, in the table's order, into the front of the list, and answers
 // how many they are. Refused, with the list as it was, if the list is too short.
+// Stays: kind, store, finds and list apart: each public call takes what it needs of these, and no other takes all.
 pub fn write_certificate<K: Kind, S: Store<K>>(
     kind: &K,
     store: &S,

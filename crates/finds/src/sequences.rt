@@ -13,6 +13,7 @@ use sets::Event;
 // Writes the events of the rows from the last one along the origins, before the row of length 0, into the front of the
 // list, and answers how many they are. Refused, with the list as it was, if the rows are not intact or, where they
 // are, the list is too short.
+// Stays: kind, finds and list apart: each public call takes what it needs of these, and this one takes no store.
 pub fn write_sequence<K: Kind>(
     kind: &K,
     starts: usize,

@@ -40,6 +40,7 @@ impl From<Refused> for InspectionFault {
     }
 }
 
+// Stays: a joint fault has two matches like these over other layers, and a trait for both would say them once more.
 impl InspectionFault {
     // The number under which the inspection is refused.
     pub fn number(self) -> u8

@@ -47,6 +47,7 @@ pub fn inspect_joint<'a>(
     examine_joint(parts, model, list)
 }
 
+// Stays: parts and list are two sides of one question: a struct of them would be made only to be taken apart.
 // Stays: one generic function over both kinds of tables would need a trait that names each clause by a ghost member.
 fn examine_pattern(parts: Parts, list: &[States]) -> Result<Inspection, InspectionFault>
     ensures { result ≡ pattern_inspected (read_pattern parts.entry) list.now }

@@ -30,6 +30,7 @@ impl From<ModelFault> for JointFault {
     }
 }
 
+// Stays: other faults have two matches like these over layers of theirs: a trait for all would say them once more.
 impl JointFault {
     // The number under which the fault is refused.
     pub fn number(self) -> u8

@@ -8,6 +8,7 @@ ghost use Rattle.pair_cases.specs.Cases.{pair_tables_of, Worked};
 use patterns::parts::Parts;
 use patterns::row::{Operation, Row};
 
+// Stays: worked tables differ in their numbers, and each has a definition of its own in specs that it is equal to.
 static ROOTS: [u16; 5] = [2, 0, 8, 4, 9];
 
 static ROWS: [Row; 10] = [

@@ -6,6 +6,7 @@ ghost use Rattle.patterns.specs.Latch.{latch, Worked};
 use crate::parts::Parts;
 use crate::row::{Operation, Row};
 
+// Stays: worked tables differ in their numbers, and each has a definition of its own in specs that it is equal to.
 static LATCH_ROOTS: [u16; 2] = [2, 0];
 
 static LATCH_ROWS: [Row; 3] = [

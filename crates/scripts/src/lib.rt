@@ -76,6 +76,7 @@ pub fn run<K: Kind, S: Store<K>>(
 }
 
 // One call on a check.
+// Stays: progress, kind, table and store apart: a check's calls take them so, and tally and look take no store.
 fn act<K: Kind, S: Store<K>>(
     progress: Progress,
     kind: &K,

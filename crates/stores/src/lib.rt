@@ -24,6 +24,7 @@ use crate::refusals::Refused;
 // The covers and holds questions, size and maximum change nothing: neither the set nor the maximum. Only insert
 // does. A store is made empty, and insert keeps none within another, for the kind that it is called with: so that is
 // true of every store whose insertions were all made with one kind.
+// Stays: kind and x are just what each question is about, so a struct of them would be taken apart in each call.
 pub trait Store<K: Kind> {
     ghost held: { Self → List K.Config };
 

@@ -6,7 +6,8 @@ use crate::row::Row;
 
 // Rows of which the first are in use. These are a forest in preorder: behind each row stand the rows beneath it. What
 // stands in the others means nothing.
-// Stays: the boxes of a tree would be made on the heap; the caller lends the rows, and their number sets the maximum.
+// Stays: each box of a tree would be memory asked for at an insertion, which could then fail; the rows are handed in once,
+// and their number sets the maximum.
 #[derive(Drop)]
 pub(crate) struct Forest {
     pub(crate) rows: Vec<Row>,

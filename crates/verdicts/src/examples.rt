@@ -6,6 +6,7 @@ ghost use Rattle.verdicts.specs.Worked.{stuck, Worked};
 use patterns::parts::Parts;
 use patterns::row::{Operation, Row};
 
+// Stays: worked tables differ in their numbers, and each has a definition of its own in specs that it is equal to.
 static STUCK_ROOTS: [u16; 1] = [2];
 
 static STUCK_ROWS: [Row; 3] = [
