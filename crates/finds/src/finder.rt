@@ -15,6 +15,7 @@ pub fn least_move<K: Kind, S: Store<K>>(
 ) -> Option<(Move, K::Config)>
     ensures { result ≡ least_move_of (K.shape kind.now) (S.held store.now) y }
 {
+    // Stays: a kind is asked for one move at a time, so this is a range of numbers and no walk over a slice.
     for k in 0..kind.moves() {
         if let Some(x) = kind.back(k, y) {
             if !store.covers(kind, x) {

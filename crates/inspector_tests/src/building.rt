@@ -53,13 +53,8 @@ impl<'a> Kind for Building<'a> {
     }
 
     fn first(&self, i: usize) -> Option<Cell> {
-        // Stays: `get` with `map` leaves the goal open, since what the closure makes of the cell isn't seen as `capped`.
-        if i < self.firsts.len() {
-            let cell = self.firsts[i];
-            Some(cap(cell.room, cell.level as u64, self.top))
-        } else {
-            None
-        }
+        let cell = self.first_cell(i)?;
+        Some(cap(cell.room, cell.level as u64, self.top))
     }
 
     fn moves(&self) -> Move {
@@ -92,6 +87,13 @@ impl<'a> Kind for Building<'a> {
 }
 
 impl<'a> Building<'a> {
+    // The first cell that has number i as it was lent, and none where there are no more than i.
+    fn first_cell(&self, i: usize) -> Option<Cell>
+        ensures { result ≡ slice_get self.now.firsts.now i }
+    {
+        self.firsts.get(i).copied()
+    }
+
     // The step that has number k, and none where there are no more than k.
     fn step(&self, k: Move) -> Option<Step>
         ensures { result ≡ slice_get self.now.steps.now k }

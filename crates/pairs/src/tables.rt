@@ -165,7 +165,7 @@ impl<'a> Pair<'a> {
     }
 
     // The final states, found one by one.
-    // Stays: a fold's closure would have to be told that each state is below 64, which this loop shows.
+    // Stays: over a range, `filter` with `fold` leaves the goal open, though the calls in its closures need no more.
     fn finals(self) -> States
         ensures { result ≡ (without (read self.entry.later) (read self.entry.earlier)).finals }
     {

@@ -167,6 +167,7 @@ fn arrow_at(arrows: &[Arrow], i: usize) -> Option<Arrow>
 fn cross(pattern: &Pattern, event: Event, y: JointConfig, arrow: Arrow) -> Option<JointConfig>
     ensures { result ≡ crossed (automaton pattern.now) event y arrow }
 {
+    // Stays: `then` with a closure leaves the goal open, since what it gives is known only where the test is true.
     if arrow.admits(event) && arrow.to == y.state {
         Some(JointConfig {
             state: arrow.from,
