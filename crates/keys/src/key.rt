@@ -1,5 +1,5 @@
 // A key as a value.
-ghost use Rattle.std.specs.Prelude.{◌≡◌, ◌≤◌, not, length};
+ghost use Rattle.std.specs.Prelude.{◌≡◌, ◌≤◌, not, length, take};
 ghost use Rattle.sets.specs.Sets.{has};
 ghost use Rattle.keys.specs.Numbers.{among, without, none, missing};
 ghost use Rattle.keys.specs.Listed.{numbers};
@@ -43,10 +43,12 @@ impl Key {
         self.lead.is_none() && self.set == States::MAX
     }
 
-    // Writes the numbers to the front of `out`, and answers with what it wrote.
-    pub fn write<'a>(&self, out: &'a mut [u16; MAX_NUMBERS]) -> &'a [u16]
-        ensures items { result.now ≡ numbers self.now }
-        ensures short { length result.now ≤ 65 }
+    // Writes the numbers to the front of `out`, and answers how many there are.
+    // Stays: it tells of the caller's array, which a slice that is answered does not.
+    pub fn write(&self, out: &mut [u16; MAX_NUMBERS]) -> usize
+        ensures len { result ≡ length (numbers self.now) }
+        ensures items { take result out.new ≡ numbers self.now }
+        ensures short { result ≤ 65 }
     {
         let mut count = 0;
         if let Some(first) = self.lead {
@@ -60,6 +62,15 @@ impl Key {
                 count += 1;
             }
         }
+        count
+    }
+
+    // Writes the numbers to the front of `out`, and answers with what it wrote.
+    pub fn list<'a>(&self, out: &'a mut [u16; MAX_NUMBERS]) -> &'a [u16]
+        ensures items { result.now ≡ numbers self.now }
+        ensures short { length result.now ≤ 65 }
+    {
+        let count = self.write(out);
         &out[..count]
     }
 }

@@ -23,12 +23,11 @@ impl<'a> Word<'a> {
     pub(crate) fn of(key: Key, out: &'a mut [u16; MAX_NUMBERS]) -> Option<Word<'a>>
         ensures { option_map (λ w. w.key) result ≡ cond (none (numbers key)) None (Some key) }
     {
-        let list = key.write(out);
-        if list.is_empty() {
-            None
-        } else {
-            Some(Word { key, list })
+        if key.is_empty() {
+            return None;
         }
+        let list = key.list(out);
+        Some(Word { key, list })
     }
 
     // Whether the row holds the number at the depth, and that is not the last.
