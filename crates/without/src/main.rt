@@ -1,7 +1,7 @@
 // Reads two pattern files and writes the file of the pattern that accepts what the first accepts and the second does not.
 #![tactic(auto)]
 
-ghost use Rattle.std.specs.Prelude.{◌≡◌, take, IfOk, IfSome};
+ghost use Rattle.std.specs.Prelude.{◌≡◌, ◌≤◌, length, take, IfOk, IfSome};
 ghost use Rattle.without.specs.declared.TheConstants.{INPUT};
 
 use anyhow::{Context, bail};
@@ -61,9 +61,13 @@ fn write_pair(rt: &HostRuntime, later: &str, earlier: &str, target: &str) -> any
 
 // What the reader has left, but no more of it than one byte more than the longest file has.
 fn read_front<R: Read + Drop>(heap: Global, reader: R) -> io::Result<Vec<u8>>
-    ensures { IfOk result (λ v. IfSome (R.remaining reader) (λ bytes. v.items ≡ take INPUT bytes)) }
+    ensures items { IfOk result (λ v. IfSome (R.remaining reader) (λ bytes. v.items ≡ take INPUT bytes)) }
+    ensures len { IfOk result (λ v. length v.items ≤ INPUT) }
 {
-    let mut front = Vec::new(heap);
+    // Room for all of it at once, and never full: where input comes in packets, what a read has no room for is lost.
+    let mut front = Vec::with_capacity(heap, INPUT as usize + 1)?;
     reader.take(INPUT).read_to_end(&mut front)?;
+    // Cuts nothing off: no clause says of a file how much `take` leaves of it.
+    front.truncate(INPUT as usize);
     Ok(front)
 }
