@@ -85,5 +85,11 @@ pub fn covers<K: Kind>(kind: &K, list: &[K::Config], x: K::Config) -> bool
 fn some_covers<K: Kind>(kind: &K, list: &[K::Config], x: K::Config) -> bool
     ensures { result ≡ list_any (λ y. (K.shape kind.now).within x y) list.now }
 {
-    list.iter().any(|y| kind.within(x, *y))
+    // Stays: as `any`, it misses a bar of speed, since the compiler no longer asks two entries at a time.
+    for y in list {
+        if kind.within(x, *y) {
+            return true;
+        }
+    }
+    false
 }

@@ -28,11 +28,12 @@ impl<'a, C> ListStore<'a, C> {
         ListStore { rows, len: 0 }
     }
 
-    // The rows in use.
+    // The rows in use. The bound says what is so already: with it the compiler sees that they lie in the rows that were
+    // lent, and asks two of them at a time.
     fn in_use(&self) -> &[C]
         ensures { result.now ≡ contents self.now }
     {
-        &self.rows[..self.len]
+        &self.rows[..self.len.min(self.rows.len())]
     }
 }
 
