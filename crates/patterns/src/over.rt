@@ -4,7 +4,7 @@ ghost use Rattle.patterns.specs.Operations.{code};
 ghost use Rattle.patterns.specs.Questions.{free, known, negatable, ordered};
 ghost use Rattle.patterns.specs.Values.{row_value_of};
 
-use crate::row::{Operation, Row, UnknownOperation};
+use crate::row::{Operation, Row};
 use sets::{Event, States, holds};
 
 // A row that is known, with one bit for each row before it. The operands of the row that are rows are among these.
@@ -45,15 +45,19 @@ impl Over<'_> {
     {
         let Over { row, before } = self;
         let (left, right) = (row.left as usize, row.right as usize);
-        // The number is read here and not by `operation`, which makes a search a third slower.
-        match Operation::try_from(row.operation) {
-            Ok(Operation::False) => false,
-            Ok(Operation::True) => true,
-            Ok(Operation::State) => holds(states, left),
-            Ok(Operation::Signal) => holds(event as States, left),
-            Ok(Operation::And) => before[left] && before[right],
-            Ok(Operation::Or) => before[left] || before[right],
-            Ok(Operation::Not) | Err(UnknownOperation(_)) => !before[left],
+        // NOT is told apart by a branch, which is guessed far better than a jump by a table: with a table for all seven, a
+        // search takes a third more time.
+        if row.operation == Operation::Not as u8 {
+            return !before[left];
+        }
+        match self.operation() {
+            Operation::False => false,
+            Operation::True => true,
+            Operation::State => holds(states, left),
+            Operation::Signal => holds(event as States, left),
+            Operation::And => before[left] && before[right],
+            Operation::Or => before[left] || before[right],
+            Operation::Not => !before[left],
         }
     }
 
