@@ -45,11 +45,6 @@ impl Over<'_> {
     {
         let Over { row, before } = self;
         let (left, right) = (row.left as usize, row.right as usize);
-        // NOT is told apart by a branch, which is guessed far better than a jump by a table: with a table for all seven, a
-        // search takes a third more time.
-        if row.operation == Operation::Not as u8 {
-            return !before[left];
-        }
         match self.operation() {
             Operation::False => false,
             Operation::True => true,
